@@ -1,0 +1,63 @@
+ghost use Rattle.std.specs.Prelude.{◌≡◌, ◌≢◌, ◌<◌, ◌≤◌, ◌^◌, ℕ, List, map, decimal, IfOk, IfSome, IfNone};
+ghost use Rattle.lr_text.specs.Words.{run_word, hex_digit, IsRun, AreRuns};
+
+use lr_spec::OutOfMemory;
+use crate::number::number_of;
+use std::alloc::Global;
+
+// The value of a lower-case hexadecimal digit.
+fn hex_value(b: u8) -> Option<u8>
+    ensures found { IfSome result (λ d. (d < 16) × (b ≡ hex_digit d)) }
+    ensures only { IfNone result ((d : ℕ) → d < 16 → b ≢ hex_digit d) }
+{
+    match b {
+        b'0'..=b'9' => Some(b - b'0'),
+        b'a'..=b'f' => Some(b - b'a' + 10),
+        _ => None,
+    }
+}
+
+/// The run that a word `NxHH` spells.
+pub fn run_of(word: &[u8]) -> Option<(u64, u8)>
+    ensures found { IfSome result (λ r. IsRun r × (word.now ≡ run_word r)) }
+    ensures only { IfNone result ((r : ℕ × ℕ) → IsRun r → word.now ≢ run_word r) }
+{
+    let [digits @ .., b'x', high, low] = word else {
+        return None;
+    };
+    let count = number_of(digits)?;
+    if count == 0 {
+        return None;
+    }
+    let Some(high) = hex_value(*high) else {
+        return None;
+    };
+    let Some(low) = hex_value(*low) else {
+        return None;
+    };
+    Some((count, high * 16 + low))
+}
+
+/// The runs of these words, where their sum is at most this.
+pub fn runs_of(
+    alloc: Global,
+    words: &[&[u8]],
+    most: u64,
+) -> Result<Option<Vec<(u64, u8)>>, OutOfMemory>
+    ensures found { IfOk result (λ o. IfSome o (λ v. AreRuns v.items most × (map (λ w. w.now) words.now ≡ map run_word v.items))) }
+    ensures only { IfOk result (λ o. IfNone o ((rs : List (ℕ × ℕ)) → AreRuns rs most → map (λ w. w.now) words.now ≢ map run_word rs)) }
+{
+    let mut runs = Vec::new(alloc);
+    let mut left = most;
+    for word in words {
+        let Some(run) = run_of(word) else {
+            return Ok(None);
+        };
+        if run.0 > left {
+            return Ok(None);
+        }
+        left -= run.0;
+        runs.push(run)?;
+    }
+    Ok(Some(runs))
+}
