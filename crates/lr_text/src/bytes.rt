@@ -110,9 +110,8 @@ pub fn put_bytes(out: &mut Vec<u8>, bytes: &[u8]) -> Result<(), OutOfMemory>
     put
 }
 
-/// The maximal runs of a list of bytes spell it back, and no other runs that are maximal do.
-pub fn runs_are_maximal(_bytes: &[u8])
-    ensures maximal { AreMaximal (maximal_runs _bytes.now) _bytes.now }
-    ensures alone { (runs : List (ℕ × ℕ)) → AreMaximal runs _bytes.now → runs ≡ maximal_runs _bytes.now }
-{
-}
+/// A law: the maximal runs of a list of bytes spell it back, and no other runs that are maximal do.
+pub fn runs_are_maximal()
+    ensures maximal { (bytes : List ℕ) → AreMaximal (maximal_runs bytes) bytes }
+    ensures alone { (bytes : List ℕ) (runs : List (ℕ × ℕ)) → AreMaximal runs bytes → runs ≡ maximal_runs bytes }
+{}

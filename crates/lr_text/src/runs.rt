@@ -1,9 +1,9 @@
 ghost use Rattle.std.specs.Prelude.{◌≡◌, ◌≢◌, ◌<◌, ◌≤◌, ◌^◌, ◌++◌, ℕ, List, map, OnOk, OnErr, decimal, IfOk, IfSome, IfNone};
 ghost use Rattle.lr_text.specs.Words.{run_word, hex_digit, IsRun, AreRuns};
 
-use lr_spec::OutOfMemory;
 use crate::number::number_of;
 use itoa::Buffer;
+use lr_spec::OutOfMemory;
 use std::alloc::Global;
 
 // The value of a lower-case hexadecimal digit.
