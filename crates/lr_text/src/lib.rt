@@ -1,14 +1,16 @@
 //! Words, numbers, names, keys, runs and lines: read and printed.
 #![tactic(auto)]
 
-
+mod bytes;
+mod key;
 mod name;
 mod number;
 mod runs;
 mod words;
 
-
+pub use bytes::{RUNS_MAX, put_bytes, runs_are_maximal};
+pub use key::{key_of, put_key};
 pub use name::{ImageName, place_of};
-pub use number::{number_between, number_of};
-pub use runs::{run_of, runs_of};
-pub use words::{cut_at, first, four, is, key_of, one, parts, three, two};
+pub use number::{number_between, number_of, put_number};
+pub use runs::{put_run, run_of, runs_of};
+pub use words::{cut_at, first, four, is, one, parts, three, two};

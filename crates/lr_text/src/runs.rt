@@ -1,8 +1,9 @@
-ghost use Rattle.std.specs.Prelude.{◌≡◌, ◌≢◌, ◌<◌, ◌≤◌, ◌^◌, ℕ, List, map, decimal, IfOk, IfSome, IfNone};
+ghost use Rattle.std.specs.Prelude.{◌≡◌, ◌≢◌, ◌<◌, ◌≤◌, ◌^◌, ◌++◌, ℕ, List, map, OnOk, OnErr, decimal, IfOk, IfSome, IfNone};
 ghost use Rattle.lr_text.specs.Words.{run_word, hex_digit, IsRun, AreRuns};
 
-use lr_spec::OutOfMemory;
 use crate::number::number_of;
+use itoa::Buffer;
+use lr_spec::OutOfMemory;
 use std::alloc::Global;
 
 // The value of a lower-case hexadecimal digit.
@@ -60,4 +61,29 @@ pub fn runs_of(
         runs.push(run)?;
     }
     Ok(Some(runs))
+}
+
+// The lower-case hexadecimal digit of a value.
+fn hex_glyph(d: u8) -> u8
+    requires { d < 16 }
+    ensures { result ≡ hex_digit d }
+{
+    if d < 10 { b'0' + d } else { b'a' + (d - 10) }
+}
+
+/// Adds the run `NxHH`: a count, and a byte in two hexadecimal digits.
+///
+/// After an error the output is as it was.
+pub fn put_run(out: &mut Vec<u8>, count: u64, byte: u8) -> Result<(), OutOfMemory>
+    ensures added { OnOk result (out.new.items ≡ out.old.items ++ run_word (count, byte)) }
+    ensures kept { OnErr result (out.new.items ≡ out.old.items) }
+{
+    let mut buffer = Buffer::new();
+    let digits = buffer.format(count).as_bytes();
+    out.reserve(digits.len() + 3)?;
+    out.extend_from_slice(digits)?;
+    out.push_reserved(b'x');
+    out.push_reserved(hex_glyph(byte / 16));
+    out.push_reserved(hex_glyph(byte % 16));
+    Ok(())
 }

@@ -1,0 +1,7 @@
+use Rattle.std.proofs.Common.{◌≡◌, refl, ◌∙◌, ap, sym, ◌∷◌, List, ℕ}
+use Rattle.lr_text.specs.Bytes.{maximal_runs}
+use Rattle.lr_text.proofs.MaximalRuns.{first_run_is}
+use Rattle.lr_text.proofs.bytes.first_run.Goals as goal
+
+pub returns-clause-runs : goal.returns-clause-runs
+returns-clause-runs c = rw c.split_at.ensures.back (first_run_is c.args.bytes.now _ c.front-n.result c.requires refl c.front-n.ensures.count)
