@@ -3,6 +3,7 @@
 
 mod bytes;
 mod key;
+mod lines;
 mod name;
 mod number;
 mod runs;
@@ -10,7 +11,8 @@ mod words;
 
 pub use bytes::{RUNS_MAX, put_bytes, runs_are_maximal};
 pub use key::{key_of, put_key};
+pub use lines::{cut_at, parts};
 pub use name::{ImageName, place_of};
 pub use number::{number_between, number_of, put_number};
 pub use runs::{put_run, run_of, runs_of};
-pub use words::{cut_at, first, four, is, one, parts, three, two};
+pub use words::{first, four, is, one, three, two};

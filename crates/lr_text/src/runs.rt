@@ -30,12 +30,8 @@ pub fn run_of(word: &[u8]) -> Option<(u64, u8)>
     if count == 0 {
         return None;
     }
-    let Some(high) = hex_value(*high) else {
-        return None;
-    };
-    let Some(low) = hex_value(*low) else {
-        return None;
-    };
+    let high = hex_value(*high)?;
+    let low = hex_value(*low)?;
     Some((count, high * 16 + low))
 }
 
