@@ -7,7 +7,7 @@ use Rattle.lr_io.proofs.source.read_up_to.Goals as goal
 pub loop-buffer-preserved : goal.loop-buffer-preserved
 loop-buffer-preserved g c =
     let before = take c.min-want.result c.loop-buffer.buffer in
-    let n = c.in_ok-n.field-0 in
+    let n = c.in_ok-n.n in
     let fits : n ≤ length before = c.in_ok-n.ensures.fits in
     let few : length before ≤ c.min-want.result = grind (arith, common_steps) in
     let more : TakesFirst (g.I.Source.left c.loop-buffer.source) n before c.read.new.buffer (g.I.Source.left c.read.new.self) = c.in_ok-n.ensures.takes in
@@ -19,7 +19,7 @@ loop-buffer-preserved g c =
 pub returns-then-n-eq0-clause-whole : goal.returns-then-n-eq0-clause-whole
 returns-then-n-eq0-clause-whole g c = λ _.
     let before = take c.min-want.result c.loop-buffer.buffer in
-    let n = c.in_ok-n.field-0 in
+    let n = c.in_ok-n.n in
     let none : n ≡ 0 = c.if-n-eq0.true in
     let room : 0 < length before = grind (arith, common_steps) in
     let end : n ≡ 0 → 0 < length before → IsAtEnd (g.I.Source.left c.loop-buffer.source) = c.in_ok-n.ensures.end in
