@@ -12,10 +12,10 @@ fn some_bytes(alloc: Global, count: usize) -> Result<Vec<u8>, AllocError> {
 }
 
 // What is read of 10,000 bytes up to a limit, where one call fails: the number of bytes, or none.
-fn read_count(alloc: Global, limit: usize, failing: u64) -> Result<Option<usize>, Fail> {
+fn read_count(alloc: Global, limit: u16, failing: u64) -> Result<Option<usize>, Fail> {
     let fails = vec![in alloc; failing]?;
     let mut source = MemSource::new(some_bytes(alloc, 10_000)?, fails);
-    match read_up_to(alloc, &mut source, limit) {
+    match read_up_to(alloc, &mut source, usize::from(limit)) {
         Ok(bytes) => Ok(Some(bytes.len())),
         Err(ReadError::Failed) => Ok(None),
         Err(ReadError::OutOfMemory) => Err("out of memory".into()),

@@ -5,7 +5,7 @@ use Rattle.std.specs.Prelude.{ℕ, ◌+◌, ◌<◌, ◌≤◌, ◌⊎◌, nat_l
 abbrev pub last_count : ℕ
 last_count = 18446744073709551615
 
--- one more, below the last value
+-- the count after one more, which stands still at the last value
 abbrev pub next_count : ℕ → ℕ
 next_count n = if nat_lt n last_count then n + 1 else n
 

@@ -1,4 +1,12 @@
-//! Words, numbers, names, keys, runs and lines: read and printed.
+//! Words, numbers, names, keys, runs and lists of bytes: read and printed.
+//!
+//! The printed form is the grammar: a word is a number, a key or a run exactly where it is what one of them prints
+//! as. Each reader says so from both sides: what it finds prints as the word, and where it finds nothing, nothing
+//! does. Each printer adds exactly that text, and leaves the output as it was where no memory is left.
+//!
+//! Each module is a room: `number`, `key`, `name` and `runs` for the words of their names, `bytes` for the text of
+//! a list of bytes, `lines` for cutting at separators, `words` for lines of so many words. How a room reads or
+//! prints may change there; the definitions in `specs/` are what the crates above stand on.
 #![tactic(auto)]
 
 mod bytes;

@@ -101,14 +101,10 @@ fn name(word: &[u8]) -> Result<ImageName, Fail> {
 #[test]
 fn names_are_in_the_order_of_their_bytes(rt: HostRuntime) -> Result<(), Fail> {
     let alloc = rt.alloc();
-    let names = [
-        name(b"0")?,
-        name(b"a")?,
-        name(b"a-b")?,
-        name(b"a.b")?,
-        name(b"ab")?,
-        name(b"b")?,
-    ];
+    let mut names = Vec::new(alloc);
+    for word in [b"0".as_slice(), b"a", b"a-b", b"a.b", b"ab", b"b"] {
+        names.push(name(word)?)?;
+    }
     for i in 1..names.len() {
         assert!(rt; names[i - 1] < names[i]);
         assert!(rt; names[i - 1] != names[i]);
@@ -116,10 +112,10 @@ fn names_are_in_the_order_of_their_bytes(rt: HostRuntime) -> Result<(), Fail> {
     assert_eq!(rt; place_of(&names, b"a.b"), Some(3));
     assert_eq!(rt; place_of(&names, b"c"), None);
     let mut places = BTreeMap::new(alloc);
-    places.insert(names[4], 4u8)?;
-    places.insert(names[2], 2)?;
+    places.insert(name(b"ab")?, 4u8)?;
+    places.insert(name(b"a-b")?, 2)?;
     assert_eq!(rt; places.get(&name(b"a-b")?).copied(), Some(2));
-    assert_eq!(rt; format!(in alloc; "{:?}", names[3])?.as_str(), "a.b");
+    assert_eq!(rt; format!(in alloc; "{:?}", name(b"a.b")?)?.as_str(), "a.b");
     Ok(())
 }
 
