@@ -8,13 +8,13 @@ mod edge;
 
 use edge::{StdSink, StdSource};
 use lr_top::{Outcome, top};
-use std::env;
-use std::io;
 use std::io::{ErrorKind, Write};
 use std::process::ExitCode;
+use std::{env, io};
 
 // The statuses of wrong words and of want of memory.
 const USAGE: u8 = 2;
+
 const MEMORY: u8 = 7;
 
 // The words behind the store, where the store is the empty one in memory: no others are known.

@@ -3,8 +3,8 @@
 //! `run` holds what was run. `text` writes its text, which `specs/Report` defines.
 #![tactic(auto)]
 
-mod text;
 mod run;
+mod text;
 
-pub use text::report;
 pub use run::Run;
+pub use text::report;

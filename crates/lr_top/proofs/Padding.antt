@@ -21,7 +21,7 @@ is_padded image whole fit is le =
     let all : length (bytes ++ replicate gap 0) ≡ len = rw (length-append bytes (replicate gap 0), length-replicate {A = ℕ} gap 0) (omega arith) in
     let rest : whole - length bytes ≡ gap + (whole - len) = omega arith in
     let one : bytes ++ replicate (whole - length bytes) 0 ≡ (bytes ++ replicate gap 0) ++ replicate (whole - len) 0 =
-        rw (rest, ← replicate-append-replicate {A = ℕ} gap (whole - len) 0) (sym (append_assoc bytes (replicate gap 0) (replicate (whole - len) 0))) in
+    rw (rest, ← replicate-append-replicate {A = ℕ} gap (whole - len) 0) (sym (append_assoc bytes (replicate gap 0) (replicate (whole - len) 0))) in
     one ∙ rw is (ap (λ (m : ℕ). (bytes ++ replicate gap 0) ++ replicate (padded_length m - m) 0) (sym all))
 
 pub bytes_fit : (image : ImageSeen) (whole : ℕ) → run_sum image.runs ≤ image.raw_len → image.raw_len ≤ whole → length (bytes_of_runs image.runs) ≤ whole

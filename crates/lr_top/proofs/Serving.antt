@@ -41,9 +41,9 @@ serves_at jobs i none call before now after reply within is serves replied left 
     let job = get_or jobs i none in
     let more : take (i + 1) jobs ≡ take i jobs ++ job ∷ [] = take_more jobs i none within in
     subst (λ (js : List Job). Serves js before after) (sym more)
-      (serves_more (take i jobs) job before now after reply serves
-        (replied ∙ ap (plain_reply now.bytes) is) (left ∙ ap (plain_after now.bytes) is)
-        (logged ∙ ap (λ (c : DeviceCall). now.log ++ record { caller = 1; call = c; reply = reply } ∷ []) is))
+    (serves_more (take i jobs) job before now after reply serves
+    (replied ∙ ap (plain_reply now.bytes) is) (left ∙ ap (plain_after now.bytes) is)
+    (logged ∙ ap (λ (c : DeviceCall). now.log ++ record { caller = 1; call = c; reply = reply } ∷ []) is))
 
 pub has_served : (script : ScriptSeen) (before after : PlainState) → before.bytes ≡ padded (raw_bytes script.image) → before.log ≡ [] → Serves script.jobs before after → HasServed script after
 has_served script before after opened empty serves =

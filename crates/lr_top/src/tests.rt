@@ -6,10 +6,10 @@ use lr_io::{MemSink, MemSource};
 use std::alloc::Global;
 use std::test::Fail;
 
-const HEAD: &[u8] = b"script 1\nroot 1111111111111111111111111111111111111111111111111111111111111111\nhost h 4\nimage a aaaaaaaaaaaaaaaaaaaaaaaaaaaaaaaaaaaaaaaaaaaaaaaaaaaaaaaaaaaaaaaa 5000 bytes 1x41 1x42\ndevice d h a aaaaaaaaaaaaaaaaaaaaaaaaaaaaaaaaaaaaaaaaaaaaaaaaaaaaaaaaaaaaaaaa\nactor p\n";
+const HEAD: &[u8] =
+    b"script 1\nroot 1111111111111111111111111111111111111111111111111111111111111111\nhost h 4\nimage a aaaaaaaaaaaaaaaaaaaaaaaaaaaaaaaaaaaaaaaaaaaaaaaaaaaaaaaaaaaaaaaa 5000 bytes 1x41 1x42\ndevice d h a aaaaaaaaaaaaaaaaaaaaaaaaaaaaaaaaaaaaaaaaaaaaaaaaaaaaaaaaaaaaaaaa\nactor p\n";
 
-const ONE_READ: &[u8] =
-    b"device d a 8192\np read 0 512 1x41 1x42 510x00\nactor p ended\n1 done\n";
+const ONE_READ: &[u8] = b"device d a 8192\np read 0 512 1x41 1x42 510x00\nactor p ended\n1 done\n";
 
 // What the top call answered, and what it wrote.
 #[derive(Drop)]
@@ -36,12 +36,7 @@ fn numbers(alloc: Global, number: Option<u64>) -> Result<Vec<u64>, Fail> {
 }
 
 // Plays a text. The source's and the sink's calls with these numbers fail.
-fn play(
-    alloc: Global,
-    text: &[u8],
-    read: Option<u64>,
-    write: Option<u64>,
-) -> Result<Answer, Fail> {
+fn play(alloc: Global, text: &[u8], read: Option<u64>, write: Option<u64>) -> Result<Answer, Fail> {
     let mut words = Vec::new(alloc);
     words.push(String::from_str(alloc, "play")?)?;
     let mut source = MemSource::new(Vec::from_slice(alloc, text)?, numbers(alloc, read)?);
@@ -72,7 +67,10 @@ fn reads_at_the_edges_are_reported(rt: HostRuntime) -> Result<(), Fail> {
     )?;
     let answer = play(rt.alloc(), &text, None, None)?;
     assert_eq!(rt; answer.status, 0);
-    assert_eq!(rt; answer.written.as_slice(), b"device d a 8192\np read 7680 512 512x00\np read 8192 512 range\np read 100 512 range\np read 0 0 range\nactor p ended\n1 done\n2 range\n3 range\n4 range\n".as_slice());
+    assert_eq!(rt;
+        answer.written.as_slice(),
+        b"device d a 8192\np read 7680 512 512x00\np read 8192 512 range\np read 100 512 range\np read 0 0 range\nactor p ended\n1 done\n2 range\n3 range\n4 range\n".as_slice()
+    );
     Ok(())
 }
 
@@ -91,7 +89,10 @@ fn faults_of_the_outside_have_their_statuses(rt: HostRuntime) -> Result<(), Fail
         let answer = play(rt.alloc(), &text, read, write)?;
         assert_eq!(rt; answer.status, status);
         assert_eq!(rt; answer.line.as_slice(), line);
-        assert_eq!(rt; answer.written.as_slice(), if status == 0 { ONE_READ } else { b"" });
+        assert_eq!(rt;
+            answer.written.as_slice(),
+            if status == 0 { ONE_READ } else { b"" }
+        );
     }
     Ok(())
 }
@@ -104,7 +105,10 @@ fn words_other_than_play_are_usage(rt: HostRuntime) -> Result<(), Fail> {
     let mut sink = MemSink::new(alloc, Vec::new(alloc));
     assert_eq!(rt; top(alloc, &words, &mut source, &mut sink).status, 2);
     words.push(String::from_str(alloc, "replay")?)?;
-    assert_eq!(rt; top(alloc, &words, &mut source, &mut sink).line.as_slice(), b"usage".as_slice());
+    assert_eq!(rt;
+        top(alloc, &words, &mut source, &mut sink).line.as_slice(),
+        b"usage".as_slice()
+    );
     Ok(())
 }
 
@@ -113,16 +117,48 @@ fn a_refusal_names_the_first_line_outside(rt: HostRuntime) -> Result<(), Fail> {
     for (jobs, status, line) in [
         (b"".as_slice(), 3, b"script line 7".as_slice()),
         (b"read d 0 1048576\n".as_slice(), 0, b"".as_slice()),
-        (b"read d 0 1049088\n".as_slice(), 3, b"script line 7".as_slice()),
-        (b"read d 0 512\nread d 00 512\n".as_slice(), 3, b"script line 8".as_slice()),
-        (b"read d 0 512\n\n".as_slice(), 3, b"script line 8".as_slice()),
-        (b"read d 0 512\n# x\n".as_slice(), 3, b"script line 8".as_slice()),
+        (
+            b"read d 0 1049088\n".as_slice(),
+            3,
+            b"script line 7".as_slice(),
+        ),
+        (
+            b"read d 0 512\nread d 00 512\n".as_slice(),
+            3,
+            b"script line 8".as_slice(),
+        ),
+        (
+            b"read d 0 512\n\n".as_slice(),
+            3,
+            b"script line 8".as_slice(),
+        ),
+        (
+            b"read d 0 512\n# x\n".as_slice(),
+            3,
+            b"script line 8".as_slice(),
+        ),
         (b"read e 0 512\n".as_slice(), 3, b"script line 7".as_slice()),
-        (b"read d 18446744073709551615 512\n".as_slice(), 0, b"".as_slice()),
-        (b"read d 18446744073709551616 512\n".as_slice(), 3, b"script line 7".as_slice()),
+        (
+            b"read d 18446744073709551615 512\n".as_slice(),
+            0,
+            b"".as_slice(),
+        ),
+        (
+            b"read d 18446744073709551616 512\n".as_slice(),
+            3,
+            b"script line 7".as_slice(),
+        ),
         (b"read d 0 512".as_slice(), 3, b"script line 7".as_slice()),
-        (b"read d 0 512 \n".as_slice(), 3, b"script line 7".as_slice()),
-        (b"read d 0 512\nactor q\n".as_slice(), 3, b"script line 8".as_slice()),
+        (
+            b"read d 0 512 \n".as_slice(),
+            3,
+            b"script line 7".as_slice(),
+        ),
+        (
+            b"read d 0 512\nactor q\n".as_slice(),
+            3,
+            b"script line 8".as_slice(),
+        ),
     ] {
         let text = script(rt.alloc(), jobs)?;
         let answer = play(rt.alloc(), &text, None, None)?;
