@@ -117,6 +117,20 @@ fn round_constant(i: usize) -> [u8; 4] {
     [c, 0, 0, 0]
 }
 
+// What word `i` takes from the word `t` before it.
+fn scheduled(t: [u8; 4], nk: usize, i: usize) -> [u8; 4]
+    requires low { 4 ≤ nk }
+    requires from { nk ≤ i }
+{
+    if i % nk == 0 {
+        return add_words(sub_word(rot_word(t)), round_constant(i / nk - 1));
+    }
+    if nk == 8 && i % 8 == 4 {
+        return sub_word(t);
+    }
+    t
+}
+
 // The schedule of a key of `nk` words, of which `4 * (nk + 7)` are made.
 fn schedule(key: &[u8], nk: usize) -> [[u8; 4]; 60]
     requires low { 4 ≤ nk }
@@ -128,13 +142,8 @@ fn schedule(key: &[u8], nk: usize) -> [[u8; 4]; 60]
         w[i] = [key[4 * i], key[4 * i + 1], key[4 * i + 2], key[4 * i + 3]];
     }
     for i in nk..4 * (nk + 7) {
-        let mut t = w[i - 1];
-        if i % nk == 0 {
-            t = add_words(sub_word(rot_word(t)), round_constant(i / nk - 1));
-        } else if nk == 8 && i % 8 == 4 {
-            t = sub_word(t);
-        }
-        w[i] = add_words(w[i - nk], t);
+        let word = add_words(w[i - nk], scheduled(w[i - 1], nk, i));
+        w[i] = word;
     }
     w
 }
@@ -148,7 +157,8 @@ pub fn encrypted(key: &[u8], nk: usize, block: [u8; 16]) -> [u8; 16]
     let w = schedule(key, nk);
     let mut s = add_round_key(block, &w, 0);
     for n in 1..nk + 6 {
-        s = add_round_key(mix_columns(shift_rows(sub_bytes(s))), &w, n);
+        let next = add_round_key(mix_columns(shift_rows(sub_bytes(s))), &w, n);
+        s = next;
     }
     add_round_key(shift_rows(sub_bytes(s)), &w, nk + 6)
 }
@@ -256,8 +266,10 @@ pub fn gcm_text(key: &[u8], nk: usize, nonce: &[u8; 12], text: &mut [u8])
     let mut pad = [0u8; 16];
     for t in 0..text.len() {
         if t % 16 == 0 {
-            counter = inc32(counter);
-            pad = encrypted(key, nk, counter);
+            let next = inc32(counter);
+            counter = next;
+            let block = encrypted(key, nk, counter);
+            pad = block;
         }
         text[t] ^= pad[t % 16];
     }
