@@ -24,7 +24,6 @@ takes_more old mid new bytes before buffer n le first second = λ xs e.
     let whole : xs ≡ (bytes ++ take n buffer) ++ drop n f.0 = rw front (f.1 ∙ ap (λ (ys : List ℕ). bytes ++ ys) (sym (take-append-drop n f.0)) ∙ sym (append_assoc bytes (take n f.0) (drop n f.0))) in
     (drop n f.0, whole, s.2)
 
-
 pub takes_whole : (old mid new : Option (List ℕ)) (bytes before buffer : List ℕ) (n : ℕ) → n ≡ 0 → 0 < length before → Takes old bytes mid → (n ≡ 0 → 0 < length before → IsAtEnd mid) → TakesFirst mid n before buffer new → TakesAll old bytes new
 takes_whole old mid new bytes before buffer n none room first end second = λ xs e.
     let f = first xs e in

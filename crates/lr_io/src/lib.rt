@@ -10,7 +10,10 @@ mod memory;
 mod sink;
 mod source;
 
-pub use line::Line;
+pub use line::{LINE_MAX, Line};
 pub use memory::{MemSink, MemSource};
 pub use sink::{Sink, SinkError, write_all};
 pub use source::{ReadError, Source, SourceFailed, read_up_to};
+
+#[cfg(test)]
+mod tests;

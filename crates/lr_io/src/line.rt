@@ -1,3 +1,4 @@
+//! A short text in place.
 ghost use Rattle.std.specs.Prelude.{◌≡◌, ◌+◌, ◌≤◌, ◌++◌, ◌↔◌, [], length, IsTrue};
 
 use std::marker::Model;
@@ -6,9 +7,11 @@ use std::marker::Model;
 pub const LINE_MAX: usize = 256;
 
 /// Text of at most 256 bytes, kept in place, so that no call takes memory.
+///
+/// A contract sees a `Line` as its bytes.
 #[derive(Drop)]
 pub struct Line {
-    bytes: [u8; 256],
+    bytes: [u8; LINE_MAX],
     len: usize,
 }
 
@@ -28,17 +31,17 @@ impl Line {
         ensures { result ≡ [] }
     {
         Line {
-            bytes: [0; 256],
+            bytes: [0; LINE_MAX],
             len: 0,
         }
     }
 
-    /// This text.
+    /// This text, of at most 256 bytes.
     pub fn of(text: &[u8]) -> Line
         requires { length text.now ≤ LINE_MAX }
         ensures { result ≡ text.now }
     {
-        let mut bytes = [0; 256];
+        let mut bytes = [0; LINE_MAX];
         bytes[..text.len()].copy_from_slice(text);
         Line {
             bytes,
@@ -46,7 +49,7 @@ impl Line {
         }
     }
 
-    /// Adds this text at the end.
+    /// Adds this text at the end. Both together have at most 256 bytes.
     pub fn push(&mut self, text: &[u8])
         requires { length self.old + length text.now ≤ LINE_MAX }
         ensures { self.new ≡ self.old ++ text.now }
@@ -56,12 +59,14 @@ impl Line {
         self.len = end;
     }
 
+    /// The bytes of the text.
     pub fn as_slice(&self) -> &[u8]
         ensures { result.now ≡ self.now }
     {
         &self.bytes[..self.len]
     }
 
+    /// Whether the text has no bytes.
     pub fn is_empty(&self) -> bool
         ensures { IsTrue result ↔ (self.now ≡ []) }
     {

@@ -1,3 +1,4 @@
+//! Where bytes come from, and the loop that reads them.
 ghost use Rattle.std.specs.Prelude.{◌≡◌, ◌+◌, ◌<◌, ◌≤◌, ◌^◌, List, ℕ, Option, length, take, IfOk, OnErr, IsErrOf};
 ghost use Rattle.lr_spec.specs.Rose.{Rose};
 ghost use Rattle.lr_io.specs.Streams.{TakesFirst, IsAtEnd, Takes, TakesAll};
@@ -10,6 +11,9 @@ use std::alloc::{AllocError, Global};
 pub struct SourceFailed;
 
 /// Bytes that come in.
+///
+/// A contract sees the bytes left, where the source tells them, and a count of its faults. Memory tells its
+/// bytes; a file or a pipe tells none, and then no claim is made of what is read.
 pub trait Source {
     /// The bytes left, where the source tells them.
     ghost left: { Self → Option (List ℕ) };
@@ -19,7 +23,8 @@ pub trait Source {
 
     /// Moves bytes from the front of what is left to the front of the buffer, and says how many.
     ///
-    /// It gives 0 for a buffer that isn't empty only where no byte is left.
+    /// It gives 0 for a buffer that isn't empty only where no byte is left. `SourceFailed` comes only where the
+    /// count of faults rose in this call.
     fn read(&mut self, buffer: &mut [u8]) -> Result<usize, SourceFailed>
         ensures fits { IfOk result (λ n. n ≤ length buffer.old) }
         ensures takes { IfOk result (λ n. TakesFirst (left self.old) n buffer.old buffer.new (left self.new)) }
@@ -31,8 +36,9 @@ pub trait Source {
 /// Why the bytes of a source were not had.
 #[derive(Clone, Copy, Debug, PartialEq, Eq)]
 pub enum ReadError {
-    /// The source failed in this call.
+    /// The source failed in this call: its count of faults rose.
     Failed,
+    /// No memory was left for the bytes.
     OutOfMemory,
 }
 
@@ -56,12 +62,14 @@ impl From<AllocError> for ReadError {
     }
 }
 
-// How many bytes are asked for at once.
+// The most bytes that are asked for at once.
 const PIECE: usize = 4096;
 
 /// Reads a source to its end, or to one byte past the limit.
 ///
-/// A result of at most `limit` bytes is all that was left.
+/// The result has at most `limit + 1` bytes, taken from the front of what was left. A result of at most `limit`
+/// bytes is all of it, and the source is then at its end. `Failed` comes only where the source's count of faults
+/// rose in this call. After an error nothing is said of what is left.
 pub fn read_up_to<I: Source>(
     alloc: Global,
     source: &mut I,

@@ -35,3 +35,6 @@ pub fn chunk_count(raw: u64) -> u32
 {
     padded_len(raw).div_ceil(CHUNK) as u32
 }
+
+#[cfg(test)]
+mod tests;

@@ -6,7 +6,9 @@ ghost use Rattle.lr_script.specs.Lines.{ScriptLine, RootLine, HostLine, ImageLin
 use crate::reading::Reading;
 use crate::script::{ImageBody, Job};
 use lr_spec::OutOfMemory;
-use lr_text::{ImageName, first, four, is, key_of, number_between, number_of, one, runs_of, three, two};
+use lr_text::{
+    ImageName, first, four, is, key_of, number_between, number_of, one, runs_of, three, two,
+};
 use std::alloc::Global;
 
 // Each function reads the words behind the first of its kind of line. It is false where they don't fit.
@@ -60,11 +62,7 @@ pub fn host_line(reading: &mut Reading, words: &[&[u8]]) -> bool
 }
 
 // `bytes RUN ..`: at most 64 runs whose sum is at most this.
-fn body_of(
-    alloc: Global,
-    words: &[&[u8]],
-    most: u64,
-) -> Result<Option<Vec<(u64, u8)>>, OutOfMemory>
+fn body_of(alloc: Global, words: &[&[u8]], most: u64) -> Result<Option<Vec<(u64, u8)>>, OutOfMemory>
     ensures found { IfOk result (λ o. IfSome o (λ v. (length v.items ≤ 64) × AreRuns v.items most × (map (λ w. w.now) words.now ≡ codes "bytes" ∷ map run_word v.items))) }
     ensures only { IfOk result (λ o. IfNone o ((rs : List (ℕ × ℕ)) → length rs ≤ 64 → AreRuns rs most → map (λ w. w.now) words.now ≢ codes "bytes" ∷ map run_word rs)) }
 {

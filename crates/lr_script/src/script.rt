@@ -16,11 +16,15 @@ pub struct ImageBody {
 }
 
 impl Model for ImageBody {
+    ghost use Rattle.std.specs.Prelude.{◌≤◌};
+    ghost use Rattle.lr_text.specs.Words.{run_sum};
     ghost use Rattle.lr_script.specs.Seen.{ImageSeen};
 
     ghost Value = { ImageSeen };
 
     ghost view = { λ i. record { name = i.name; tenant = i.tenant; raw_len = i.raw_len; runs = i.runs.items } };
+
+    ghost invariant = { λ i. (i.raw_len ≤ 67108864) × (run_sum i.runs.items ≤ i.raw_len) };
 }
 
 /// What an actor does. Offset and length are bytes.

@@ -16,7 +16,9 @@ use std::alloc::Global;
 
 // Bytes of a line without its LF, lines of a script, bytes of a script.
 const LINE_MAX: usize = 4096;
+
 const LINES_MAX: u32 = 100_000;
+
 const BYTES_MAX: usize = 4_194_304;
 
 fn kind_line(

@@ -2,6 +2,7 @@
 ghost use Rattle.std.specs.Prelude.{◌≡◌, ◌≢◌, ◌++◌, ℕ, List, IfSome, IfNone, OnOk, OnErr};
 ghost use Rattle.lr_text.specs.Words.{IsKey, key_word};
 
+use crate::words::is;
 use lr_spec::OutOfMemory;
 
 // 32 bytes are a key.
@@ -12,26 +13,6 @@ fn kept(key: [u8; 32]) -> [u8; 32]
     key
 }
 
-/// The 32 bytes that a word of 64 hexadecimal digits in lower case spells. `None` for every other word.
-pub fn key_of(word: &[u8]) -> Option<[u8; 32]>
-    ensures found { IfSome result (λ key. IsKey key × (word.now ≡ key_word key)) }
-    ensures only { IfNone result ((key : List ℕ) → IsKey key → word.now ≢ key_word key) }
-{
-    let mut key = [0; 32];
-    let mut again = [0; 64];
-    if hex::decode_to_slice(word, &mut key).is_err() {
-        return None;
-    }
-    if hex::encode_to_slice(key.as_slice(), &mut again).is_err() {
-        return None;
-    }
-    if word == again.as_slice() {
-        Some(kept(key))
-    } else {
-        None
-    }
-}
-
 // The digits of a key.
 fn digits_of(key: &[u8; 32]) -> [u8; 64]
     ensures { result ≡ key_word key.now }
@@ -40,6 +21,22 @@ fn digits_of(key: &[u8; 32]) -> [u8; 64]
     // The length is right, so the digits are always written.
     let _ = hex::encode_to_slice(key.as_slice(), &mut digits);
     digits
+}
+
+/// The 32 bytes that a word of 64 hexadecimal digits in lower case spells. `None` for every other word.
+pub fn key_of(word: &[u8]) -> Option<[u8; 32]>
+    ensures found { IfSome result (λ key. IsKey key × (word.now ≡ key_word key)) }
+    ensures only { IfNone result ((key : List ℕ) → IsKey key → word.now ≢ key_word key) }
+{
+    let mut key = [0; 32];
+    if hex::decode_to_slice(word, &mut key).is_err() {
+        return None;
+    }
+    // Digits in upper case were decoded too.
+    if !is(word, &digits_of(&key)) {
+        return None;
+    }
+    Some(kept(key))
 }
 
 /// Adds the 64 hexadecimal digits of a key, in lower case.

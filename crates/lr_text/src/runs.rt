@@ -1,7 +1,9 @@
+//! Runs: the word `NxHH` stands for N bytes of one value. N is a number of at least 1, and HH the value in two
+//! hexadecimal digits in lower case.
 ghost use Rattle.std.specs.Prelude.{◌≡◌, ◌≢◌, ◌<◌, ◌≤◌, ◌^◌, ◌++◌, ℕ, List, map, OnOk, OnErr, decimal, IfOk, IfSome, IfNone};
 ghost use Rattle.lr_text.specs.Words.{run_word, hex_digit, IsRun, AreRuns};
 
-use crate::number::number_of;
+use crate::number::number_between;
 use itoa::Buffer;
 use lr_spec::OutOfMemory;
 use std::alloc::Global;
@@ -18,7 +20,7 @@ fn hex_value(b: u8) -> Option<u8>
     }
 }
 
-/// The run that a word `NxHH` spells.
+/// The run that a word spells: its count and its byte. `None` for a word that is no run.
 pub fn run_of(word: &[u8]) -> Option<(u64, u8)>
     ensures found { IfSome result (λ r. IsRun r × (word.now ≡ run_word r)) }
     ensures only { IfNone result ((r : ℕ × ℕ) → IsRun r → word.now ≢ run_word r) }
@@ -26,20 +28,14 @@ pub fn run_of(word: &[u8]) -> Option<(u64, u8)>
     let [digits @ .., b'x', high, low] = word else {
         return None;
     };
-    let count = number_of(digits)?;
-    if count == 0 {
-        return None;
-    }
-    let Some(high) = hex_value(*high) else {
-        return None;
-    };
-    let Some(low) = hex_value(*low) else {
-        return None;
-    };
+    let count = number_between(digits, 1, u64::MAX)?;
+    let high = hex_value(*high)?;
+    let low = hex_value(*low)?;
     Some((count, high * 16 + low))
 }
 
-/// The runs of these words, where their sum is at most this.
+/// The runs that these words spell, whose counts add up to at most `most` bytes. `None` where a word is no run or
+/// the sum is larger.
 pub fn runs_of(
     alloc: Global,
     words: &[&[u8]],
@@ -71,7 +67,7 @@ fn hex_glyph(d: u8) -> u8
     if d < 10 { b'0' + d } else { b'a' + (d - 10) }
 }
 
-/// Adds the run `NxHH`: a count, and a byte in two hexadecimal digits.
+/// Adds the word `NxHH` of a count and a byte.
 ///
 /// After an error the output is as it was.
 pub fn put_run(out: &mut Vec<u8>, count: u64, byte: u8) -> Result<(), OutOfMemory>

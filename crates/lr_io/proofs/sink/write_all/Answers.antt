@@ -12,7 +12,8 @@ loop-done-preserved g c =
     let piece = take (length bytes - done) (drop done bytes) in
     let is : piece ≡ drop done bytes = grind (arith, common_steps) in
     let fits : n ≤ length piece = c.in_ok-done.ensures.fits in
-    let more : Appends (g.W.Sink.written c.loop-done.sink) (take n piece) (g.W.Sink.written c.write.new.self) = c.in_ok-done.ensures.appends in
-    ( grind (arith, common_steps)
-    , appends_more (g.W.Sink.written c.args.sink.now) (g.W.Sink.written c.loop-done.sink) (g.W.Sink.written c.write.new.self) bytes piece done n is c.loop-done.invariant.1 more
-    , omega arith )
+    let more : Appends (g.W.Sink.written c.loop-done.sink) (take n piece) (g.W.Sink.written c.write.new.self) = c.in_ok-done.ensures.appends in (
+      grind (arith, common_steps),
+      appends_more (g.W.Sink.written c.args.sink.now) (g.W.Sink.written c.loop-done.sink) (g.W.Sink.written c.write.new.self) bytes piece done n is c.loop-done.invariant.1 more,
+      omega arith,
+    )

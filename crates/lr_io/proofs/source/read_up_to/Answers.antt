@@ -11,10 +11,11 @@ loop-buffer-preserved g c =
     let fits : n ≤ length before = c.in_ok-n.ensures.fits in
     let few : length before ≤ c.min-want.result = grind (arith, common_steps) in
     let more : TakesFirst (g.I.Source.left c.loop-buffer.source) n before c.read.new.buffer (g.I.Source.left c.read.new.self) = c.in_ok-n.ensures.takes in
-    let items : c.extend_from_slice.new.self.items ≡ c.loop-buffer.bytes.items ++ take n c.read.new.buffer = grind (arith, common_steps) in
-    ( grind (arith, common_steps)
-    , rw items (takes_more (g.I.Source.left c.args.source.now) (g.I.Source.left c.loop-buffer.source) (g.I.Source.left c.read.new.self) c.loop-buffer.bytes.items before c.read.new.buffer n fits c.loop-buffer.invariant.1 more)
-    , omega arith )
+    let items : c.extend_from_slice.new.self.items ≡ c.loop-buffer.bytes.items ++ take n c.read.new.buffer = grind (arith, common_steps) in (
+      grind (arith, common_steps),
+      rw items (takes_more (g.I.Source.left c.args.source.now) (g.I.Source.left c.loop-buffer.source) (g.I.Source.left c.read.new.self) c.loop-buffer.bytes.items before c.read.new.buffer n fits c.loop-buffer.invariant.1 more),
+      omega arith,
+    )
 
 pub returns-then-n-eq0-clause-whole : goal.returns-then-n-eq0-clause-whole
 returns-then-n-eq0-clause-whole g c = λ _.

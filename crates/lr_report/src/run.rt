@@ -1,0 +1,9 @@
+use lr_device::Plain;
+use lr_script::Script;
+
+/// What was run: the script that was read, and its device with the log of the calls that it answered.
+#[derive(Drop)]
+pub struct Run {
+    pub script: Script,
+    pub device: Plain,
+}

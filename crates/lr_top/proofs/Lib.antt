@@ -1,0 +1,5 @@
+mod OneWord
+mod Padding
+mod Reading
+mod Reported
+mod Serving

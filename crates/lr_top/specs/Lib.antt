@@ -1,0 +1,4 @@
+pub mod Raw
+pub mod Top
+pub mod Served
+pub mod Input

@@ -1,0 +1,41 @@
+ghost use Rattle.std.specs.Prelude.{◌≡◌, ◌++◌, ◌≤◌, OnOk, IfOk, replicate};
+ghost use Rattle.lr_text.specs.Words.{run_sum};
+ghost use Rattle.lr_text.specs.Bytes.{bytes_of_runs};
+ghost use Rattle.lr_layout.specs.Padded.{padded};
+ghost use Rattle.lr_top.specs.Raw.{raw_bytes};
+
+use lr_layout::padded_len;
+use lr_script::ImageBody;
+use lr_spec::OutOfMemory;
+use std::alloc::Global;
+
+// Adds a byte so many times.
+fn put_copies(out: &mut Vec<u8>, count: usize, byte: u8) -> Result<(), OutOfMemory>
+    ensures { OnOk result (out.new.items ≡ out.old.items ++ replicate count byte) }
+{
+    for _ in 0..count {
+        out.push(byte)?;
+    }
+    Ok(())
+}
+
+fn bytes_of(alloc: Global, runs: &[(u64, u8)]) -> Result<Vec<u8>, OutOfMemory>
+    ensures { IfOk result (λ v. v.items ≡ bytes_of_runs runs.now) }
+{
+    let mut bytes = Vec::new(alloc);
+    for run in runs {
+        put_copies(&mut bytes, run.0 as usize, run.1)?;
+    }
+    Ok(bytes)
+}
+
+/// The padded bytes of an image: those of its runs, then zeros to the raw length and on to whole pages.
+pub fn device_bytes(alloc: Global, image: &ImageBody) -> Result<Vec<u8>, OutOfMemory>
+    ensures { IfOk result (λ v. v.items ≡ padded (raw_bytes image.now)) }
+{
+    let whole = padded_len(image.raw_len) as usize;
+    let mut bytes = bytes_of(alloc, &image.runs)?;
+    let missing = whole - bytes.len();
+    put_copies(&mut bytes, missing, 0)?;
+    Ok(bytes)
+}

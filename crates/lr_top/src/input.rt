@@ -1,0 +1,40 @@
+ghost use Rattle.std.specs.Prelude.{◌≡◌, ◌<◌, ◌≤◌, ℕ, IfOk, IfErr, IsErrOf, Option, List};
+ghost use Rattle.lr_spec.specs.Rose.{Rose};
+ghost use Rattle.lr_top.specs.Top.{IsReadAs, IsOutsideAt, HasNoLineOutside};
+ghost use Rattle.lr_top.specs.Input.{IfOutside};
+
+use lr_io::{ReadError, Source, read_up_to};
+use lr_script::{Script, ScriptError};
+use std::alloc::Global;
+
+// Bytes of a script.
+const SCRIPT_MAX: usize = 4_194_304;
+
+/// Why no script was read.
+#[derive(Clone, Copy, Debug, PartialEq, Eq)]
+pub enum InputError {
+    /// This line is the first outside the grammar.
+    Outside(u32),
+    /// The source failed.
+    Failed,
+    OutOfMemory,
+}
+
+/// Reads a script from a source, to its end or to one byte past the limit of a script.
+pub fn read_script<I: Source>(alloc: Global, source: &mut I) -> Result<Script, InputError>
+    ensures script { IfOk result (λ script. IsReadAs (I.left source.old) script (I.left source.new)) }
+    ensures outside { IfErr result (λ e. IfOutside e (λ n. IsOutsideAt (I.left source.old) n)) }
+    ensures only { IfOk result (λ _. HasNoLineOutside (I.left source.old)) }
+    ensures cause { IsErrOf result InputError.Failed → Rose (I.faults source.old) (I.faults source.new) }
+{
+    let text = match read_up_to(alloc, source, SCRIPT_MAX) {
+        Ok(text) => text,
+        Err(ReadError::Failed) => return Err(InputError::Failed),
+        Err(ReadError::OutOfMemory) => return Err(InputError::OutOfMemory),
+    };
+    match Script::parse(alloc, &text) {
+        Ok(script) => Ok(script),
+        Err(ScriptError::Line(line)) => Err(InputError::Outside(line)),
+        Err(ScriptError::OutOfMemory) => Err(InputError::OutOfMemory),
+    }
+}
