@@ -1,5 +1,5 @@
 -- Histories, one call more.
-use Rattle.std.proofs.Common.{◌≡◌, ℕ, List, [], ◌∷◌, ◌++◌, length, ap, ◌∙◌, refl}
+use Rattle.std.proofs.Common.{◌≡◌, ℕ, List, [], ◌∷◌, ◌++◌, length, ◌∙◌, refl}
 use Rattle.lr_device.specs.declared.plain.Entry.{Entry}
 use Rattle.lr_device.specs.declared.plain.DeviceCall.{DeviceCall}
 use Rattle.lr_device.specs.declared.plain.DeviceCall.TheVariants.{Read}

@@ -1,5 +1,5 @@
 -- What the exact clauses of the source and the sink in memory give of what every source and sink promises.
-use Rattle.std.proofs.Common.{◌≡◌, ℕ, ◌+◌, ◌<◌, ◌≤◌, min, List, [], ◌∷◌, ◌++◌, length, take, drop, Bool, true, false, Option, Some, Result, Ok, Err, IfOk, OnErr, ap, sym, ◌∙◌, refl, inl, inr, subst, arith, IsErrOf}
+use Rattle.std.proofs.Common.{◌≡◌, ℕ, ◌<◌, ◌≤◌, min, List, [], ◌∷◌, ◌++◌, length, take, drop, Bool, true, false, Some, Result, Ok, Err, IfOk, OnErr, ap, sym, ◌∙◌, refl, inl, inr, subst, arith, IsErrOf}
 use Rattle.std.specs.Prelude.{nat_lt}
 use Rattle.std.proofs.Math.Seq.{take-length}
 use Rattle.std.proofs.lemmas.Bool.Decides.{nat_tests}

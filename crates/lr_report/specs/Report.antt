@@ -1,5 +1,5 @@
 -- The report of a run: the device with its history, then the actor with the results of its jobs.
-use Rattle.std.specs.Prelude.{ℕ, ◌+◌, List, [], ◌∷◌, ◌++◌, codes, decimal, length}
+use Rattle.std.specs.Prelude.{ℕ, ◌+◌, List, [], ◌∷◌, ◌++◌, codes, decimal}
 use Rattle.std.specs.List.{flat_map}
 use Rattle.lr_text.specs.Bytes.{bytes_text}
 use Rattle.lr_device.specs.declared.plain.Entry.{Entry}

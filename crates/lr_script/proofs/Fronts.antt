@@ -1,6 +1,6 @@
 -- Fronts of a script.
-use Rattle.std.proofs.Common.{◌≡◌, ℕ, ◌+◌, ◌<◌, ◌≤◌, List, [], ◌∷◌, ◌++◌, length, Bool, true, false, IsTrue, sym, ap, ap₂, subst, ◌∙◌, refl, arith, append_assoc, length-append}
-use Rattle.std.specs.List.{flat_map, AllPass}
+use Rattle.std.proofs.Common.{◌≡◌, ℕ, ◌+◌, List, [], ◌∷◌, ◌++◌, length, true, false, sym, ap, subst, ◌∙◌, refl, arith, append_assoc, length-append}
+use Rattle.std.specs.List.{AllPass}
 use Rattle.std.proofs.lemmas.List.{append-nil}
 use Rattle.std.proofs.lemmas.List.Elements.{All-head, All-tail}
 use Rattle.std.proofs.lemmas.Bool.Decides.{nat_tests}
@@ -11,9 +11,9 @@ use Rattle.lr_script.specs.declared.kind.Kind.{Kind}
 use Rattle.lr_script.specs.declared.kind.Kind.TheVariants as kind
 use Rattle.lr_script.specs.Seen.{ScriptSeen}
 use Rattle.lr_script.specs.State.{State, start, counted, IsWhole}
-use Rattle.lr_script.specs.Kinds.{kind_of, may_come}
+use Rattle.lr_script.specs.Kinds.{kind_of}
 use Rattle.lr_script.specs.Lines.{KindLine}
-use Rattle.lr_script.specs.Grammar.{is_text_byte, WordsLine, Reads, Run, text_of, Front, Spells, NoLine, FirstOutside}
+use Rattle.lr_script.specs.Grammar.{is_text_byte, WordsLine, Reads, Run, text_of, Front, Spells, FirstOutside}
 
 -- the lines and the bytes of a state
 abbrev pub counts : State → ℕ × ℕ

@@ -4,7 +4,7 @@ use Rattle.std.proofs.lemmas.List.{take-append-le, take-append-drop, append-nil}
 use Rattle.std.proofs.Math.Seq.{take-append_seam}
 use Rattle.lr_script.specs.Seen.{ScriptSeen}
 use Rattle.lr_script.specs.State.{State, start}
-use Rattle.lr_script.specs.Grammar.{Reads, Run, text_of, Front, Spells, NoLine, FirstOutside}
+use Rattle.lr_script.specs.Grammar.{Run, text_of, Spells, FirstOutside}
 use Rattle.lr_script.proofs.Fronts.{reads_bytes}
 
 run_bytes : (s : State) (lines : List (List ℕ)) (last : State) → Run s lines last → last.bytes ≡ s.bytes + length (text_of lines)

@@ -1,19 +1,18 @@
 -- A line leads from a state to one state, bytes spell one script, and not where a line is outside.
-use Rattle.std.proofs.Common.{◌≡◌, ℕ, ◌+◌, ◌<◌, ◌≤◌, ◌^◌, List, [], ◌∷◌, ◌++◌, length, append_assoc, length-append, suc, map, Option, Some, None, unwrap_or, codes, decimal, sym, ap, ap₂, subst, ◌∙◌, refl, arith}
+use Rattle.std.proofs.Common.{◌≡◌, ℕ, ◌+◌, ◌<◌, ◌≤◌, ◌^◌, List, [], ◌∷◌, ◌++◌, length, append_assoc, length-append, suc, Some, unwrap_or, decimal, sym, ap, ap₂, subst, ◌∙◌, refl, arith}
 use Rattle.std.proofs.lemmas.Fmt.{decimal_injective}
-use Rattle.lr_text.specs.Words.{IsKey, AreRuns, run_word, key_word, split_at_byte}
+use Rattle.lr_text.specs.Words.{split_at_byte}
 use Rattle.lr_text.proofs.Keys.{one_key}
 use Rattle.lr_text.proofs.RunWords.{one_runs}
 use Rattle.lr_text.proofs.Cuts.{cut_one}
 use Rattle.lr_script.specs.declared.kind.Kind.{Kind}
 use Rattle.lr_script.specs.declared.kind.Kind.TheVariants as kind
 use Rattle.lr_script.specs.declared.kind.Part.TheVariants as part
-use Rattle.lr_script.specs.declared.script.Job.{Job}
 use Rattle.lr_script.specs.declared.script.Job.TheVariants as job
 use Rattle.lr_script.specs.Seen.{ScriptSeen, ImageSeen}
 use Rattle.lr_script.specs.State.{State, Draft, start, counted, draft_of, IsWhole}
 use Rattle.lr_script.specs.Kinds.{kind_of}
-use Rattle.lr_script.specs.Lines.{KindLine, ScriptLine, RootLine, HostLine, ImageLine, DeviceLine, ActorLine, ReadLine}
+use Rattle.lr_script.specs.Lines.{KindLine, RootLine, HostLine, ImageLine, DeviceLine, ActorLine, ReadLine}
 use Rattle.lr_script.specs.Grammar.{WordsLine, Reads, Run, text_of, Spells, NoLine, FirstOutside}
 use Rattle.lr_script.proofs.Fronts.{text_lacks}
 

@@ -1,5 +1,5 @@
 -- Each kind of line: the words behind the first, what they ask of the state, and the state after.
-use Rattle.std.specs.Prelude.{◌≡◌, ◌≢◌, ℕ, ◌+◌, ◌<◌, ◌≤◌, ◌^◌, List, [], ◌∷◌, ◌++◌, length, map, Option, Some, IsTrue, codes, decimal}
+use Rattle.std.specs.Prelude.{◌≡◌, ◌≢◌, ℕ, ◌+◌, ◌<◌, ◌≤◌, ◌^◌, List, [], ◌∷◌, ◌++◌, length, map, Some, IsTrue, codes, decimal}
 use Rattle.lr_text.specs.Name.{is_name}
 use Rattle.lr_text.specs.Words.{IsKey, AreRuns, run_word, key_word}
 use Rattle.lr_script.specs.declared.kind.Part.TheVariants as part
@@ -7,7 +7,7 @@ use Rattle.lr_script.specs.declared.kind.Kind.{Kind}
 use Rattle.lr_script.specs.declared.kind.Kind.TheVariants as kind
 use Rattle.lr_script.specs.declared.script.Job.TheVariants as job
 use Rattle.lr_script.specs.Seen.{ImageSeen}
-use Rattle.lr_script.specs.State.{Draft, State}
+use Rattle.lr_script.specs.State.{State}
 
 -- `script 1`
 pub record ScriptLine (s : State) (words : List (List ℕ)) (after : State) : Type 0 where

@@ -29,7 +29,7 @@ fn first_run(bytes: &[u8]) -> (usize, &[u8])
     (n, rest)
 }
 
-// Whether the bytes have few maximal runs.
+// Whether the bytes have at most 64 maximal runs.
 fn has_few_runs(bytes: &[u8]) -> bool
     ensures { result ≡ nat_le (length (maximal_runs bytes.now)) RUNS_MAX }
 {

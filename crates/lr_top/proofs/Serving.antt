@@ -1,8 +1,8 @@
 -- One job more.
-use Rattle.std.proofs.Common.{◌≡◌, ℕ, ◌+◌, ◌<◌, List, take, get_or, [], ◌∷◌, ◌++◌, length, map, replicate, sym, ap, ap₂, ◌∙◌, refl, subst, arith, append_assoc, length-append}
+use Rattle.std.proofs.Common.{◌≡◌, ℕ, ◌+◌, ◌<◌, List, take, get_or, [], ◌∷◌, ◌++◌, length, map, replicate, sym, ap, ◌∙◌, refl, subst, append_assoc, length-append}
 use Rattle.std.proofs.lemmas.List.{append-nil, map-append, replicate-append-replicate, take_more}
 use Rattle.lr_device.specs.PlainState.{PlainState}
-use Rattle.lr_device.specs.PlainDevice.{plain_reply, plain_after, IsLegal, bytes_after}
+use Rattle.lr_device.specs.PlainDevice.{plain_reply, plain_after, IsLegal}
 use Rattle.lr_device.specs.declared.plain.Entry.{Entry}
 use Rattle.lr_device.specs.declared.plain.DeviceCall.{DeviceCall}
 use Rattle.lr_device.specs.declared.plain.DeviceReply.{DeviceReply}

@@ -1,5 +1,5 @@
 -- What a device answered to the jobs of a script.
-use Rattle.std.specs.Prelude.{◌≡◌, ℕ, ◌++◌, List, map, length, replicate}
+use Rattle.std.specs.Prelude.{◌≡◌, ◌++◌, List, map, length, replicate}
 use Rattle.lr_layout.specs.Padded.{padded}
 use Rattle.lr_device.specs.PlainState.{PlainState}
 use Rattle.lr_device.specs.PlainDevice.{IsLegal, bytes_after}

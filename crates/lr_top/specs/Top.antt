@@ -1,5 +1,5 @@
 -- What the top call answers.
-use Rattle.std.specs.Prelude.{◌≡◌, ℕ, ◌⊎◌, ◌++◌, List, [], ◌∷◌, codes, decimal, length, map, String, string_bytes, Option, Some}
+use Rattle.std.specs.Prelude.{◌≡◌, ℕ, ◌⊎◌, ◌++◌, List, [], codes, decimal, length, Option, Some}
 use Rattle.lr_spec.specs.Told.{Told}
 use Rattle.lr_script.specs.Seen.{ScriptSeen}
 use Rattle.lr_script.specs.Grammar.{Spells, FirstOutside}

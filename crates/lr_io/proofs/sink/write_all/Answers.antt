@@ -1,4 +1,4 @@
-use Rattle.std.proofs.Common.{◌≡◌, ◌≤◌, ◌+◌, ◌-◌, arith, length, drop, take}
+use Rattle.std.proofs.Common.{◌≡◌, ◌≤◌, ◌-◌, arith, length, drop, take}
 use Rattle.std.proofs.lemmas.Grind.{common_steps}
 use Rattle.lr_io.specs.Streams.{Appends}
 use Rattle.lr_io.proofs.Streams.{appends_more}

@@ -1,6 +1,6 @@
-use Rattle.std.proofs.Common.{◌≡◌, ◌<◌, ◌≤◌, ◌+◌, ◌-◌, ◌++◌, arith, length, drop, take}
+use Rattle.std.proofs.Common.{◌≡◌, ◌<◌, ◌≤◌, ◌++◌, arith, length, take}
 use Rattle.std.proofs.lemmas.Grind.{common_steps}
-use Rattle.lr_io.specs.Streams.{Takes, TakesFirst, IsAtEnd}
+use Rattle.lr_io.specs.Streams.{TakesFirst, IsAtEnd}
 use Rattle.lr_io.proofs.Streams.{takes_more, takes_whole}
 use Rattle.lr_io.proofs.source.read_up_to.Goals as goal
 

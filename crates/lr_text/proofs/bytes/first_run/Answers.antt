@@ -1,5 +1,4 @@
-use Rattle.std.proofs.Common.{◌≡◌, refl, ◌∙◌, ap, sym, ◌∷◌, List, ℕ}
-use Rattle.lr_text.specs.Bytes.{maximal_runs}
+use Rattle.std.proofs.Common.{refl}
 use Rattle.lr_text.proofs.MaximalRuns.{first_run_is}
 use Rattle.lr_text.proofs.bytes.first_run.Goals as goal
 

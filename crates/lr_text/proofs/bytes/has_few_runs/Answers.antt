@@ -1,4 +1,4 @@
-use Rattle.std.proofs.Common.{◌≡◌, ◌<◌, length, rules, tests}
+use Rattle.std.proofs.Common.{◌<◌, length, rules, tests}
 use Rattle.lr_text.proofs.MaximalRuns.{too_many}
 use Rattle.lr_text.proofs.bytes.has_few_runs.Goals as goal
 

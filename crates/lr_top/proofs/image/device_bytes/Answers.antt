@@ -1,6 +1,5 @@
-use Rattle.std.proofs.Common.{◌≡◌, ◌≤◌, ◌++◌, ◌∙◌, List, ℕ, length, replicate, arith, ap, subst}
+use Rattle.std.proofs.Common.{◌≡◌, ◌≤◌, ◌∙◌, length, arith, ap, subst}
 use Rattle.std.proofs.lemmas.Grind.{common_steps}
-use Rattle.lr_text.specs.Words.{run_sum}
 use Rattle.lr_text.specs.Bytes.{bytes_of_runs}
 use Rattle.lr_layout.specs.Padded.{padded, padded_length}
 use Rattle.lr_script.specs.Seen.{ImageSeen}

@@ -1,6 +1,4 @@
-use Rattle.std.proofs.Common.{◌≡◌, ◌≤◌, ◌++◌, ℕ, List, length, take, ap, sym, ◌∙◌, Some, refl}
-use Rattle.std.proofs.Math.Seq.{take-length}
-use Rattle.lr_io.specs.Streams.{Appends, AppendsFront}
+use Rattle.std.proofs.Common.{◌∙◌}
 use Rattle.lr_top.specs.Top.{report_of}
 use Rattle.lr_top.proofs.Reported.{whole_front}
 use Rattle.lr_top.proofs.play.writes.Goals as goal

@@ -1,4 +1,4 @@
-use Rattle.std.proofs.Common.{◌≡◌, ◌∙◌, List, subst}
+use Rattle.std.proofs.Common.{◌∙◌, List, subst}
 use Rattle.lr_script.specs.declared.script.Job.{Job}
 use Rattle.lr_script.specs.Seen.{ScriptSeen}
 use Rattle.lr_top.specs.Served.{Serves, HasServed}
