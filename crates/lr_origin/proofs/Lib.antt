@@ -1,0 +1,5 @@
+pub mod Tables
+pub mod TextOrder
+pub mod KeyTexts
+pub mod Placed
+pub mod Failing

@@ -1,0 +1,5 @@
+pub mod Objects
+pub mod Table
+pub mod Fuse
+pub mod Kind
+pub mod Text
