@@ -88,8 +88,8 @@ fn the_most_recent_stripes_are_kept(rt: HostRuntime) -> Result<(), Fail> {
             NodeReply::Lost(1)
         )
     );
-    assert_eq!(rt; node.entries(), 16);
-    assert!(rt; node.entry(15).is_some());
+    assert_eq!(rt; node.entries(), 15);
+    assert!(rt; node.entry(14).is_some() && node.entry(15).is_none());
     Ok(())
 }
 
