@@ -1,6 +1,6 @@
 //! A table sealed and opened again.
 use crate::{KeyTable, UnsealError, make_manifest};
-use lr_manifest::{ChunkKey, Manifest, Name, TenantKey};
+use lr_manifest::{ChunkKey, Manifest, ManifestError, Name, TenantKey};
 use std::alloc::Global;
 
 // The manifest of 5,000 bytes, of root 1 and creation number 1.
@@ -55,4 +55,80 @@ fn a_table_opens_for_its_tenant_alone(rt: HostRuntime) {
         Ok(_) => assert!(rt; false),
         Err(e) => assert!(rt; e == UnsealError::Sealed),
     }
+}
+
+// What reading bytes comes to: a fault, or a manifest whose keys open for its tenant or not.
+fn outcome_of(alloc: Global, bytes: &[u8]) -> &'static str {
+    let manifest = match Manifest::parse(alloc, bytes) {
+        Ok(manifest) => manifest,
+        Err(ManifestError::Truncated) => return "truncated",
+        Err(ManifestError::Magic) => return "magic",
+        Err(ManifestError::Version) => return "version",
+        Err(ManifestError::Fields) => return "fields",
+        Err(ManifestError::Length) => return "length",
+        Err(ManifestError::OutOfMemory) => return "memory",
+    };
+    match KeyTable::unseal(alloc, &manifest, &TenantKey { bytes: [5u8; 32] }) {
+        Ok(_) => "opened",
+        Err(UnsealError::Sealed) => "sealed",
+        Err(UnsealError::OutOfMemory) => "memory",
+    }
+}
+
+// What a changed byte at this place comes to.
+fn damage_at(place: usize) -> &'static str {
+    match place {
+        0..=3 => "magic",
+        4..=5 => "version",
+        6..=12 | 16..=23 => "fields",
+        _ => "sealed",
+    }
+}
+
+#[test]
+fn a_manifest_damaged_byte_by_byte_is_told(rt: HostRuntime) {
+    let alloc = rt.alloc();
+    let Some(manifest) = one_chunk(alloc) else {
+        return assert!(rt; false);
+    };
+    let Ok(mut bytes) = manifest.print(alloc) else {
+        return assert!(rt; false);
+    };
+    assert_eq!(rt; outcome_of(alloc, &bytes), "opened");
+    for place in 0..bytes.len() {
+        let short = if place < 24 { "truncated" } else { "length" };
+        assert_eq!(rt; outcome_of(alloc, &bytes[..place]), short);
+        bytes[place] = bytes[place] ^ 1;
+        assert_eq!(rt; outcome_of(alloc, &bytes), damage_at(place));
+        bytes[place] = bytes[place] ^ 1;
+    }
+    if bytes.push(0).is_err() {
+        return assert!(rt; false);
+    }
+    assert_eq!(rt; outcome_of(alloc, &bytes), "length");
+}
+
+#[test]
+fn a_manifest_of_the_limit_is_printed_and_read(rt: HostRuntime) {
+    let alloc = rt.alloc();
+    let mut keys = KeyTable::new(alloc);
+    let mut names = Vec::new(alloc);
+    for _ in 0..20_480u32 {
+        let pushed = keys.push(ChunkKey { bytes: [9u8; 32] });
+        if pushed.is_err() || names.push(Name { bytes: [7u8; 32] }).is_err() {
+            return assert!(rt; false);
+        }
+    }
+    if keys.count() != 20_480 || names.len() != 20_480 {
+        return assert!(rt; false);
+    }
+    let tenant = TenantKey { bytes: [5u8; 32] };
+    let Ok(manifest) = make_manifest(alloc, 10_737_418_240, names, &keys, [0; 12], &tenant) else {
+        return assert!(rt; false);
+    };
+    let Ok(bytes) = manifest.print(alloc) else {
+        return assert!(rt; false);
+    };
+    assert_eq!(rt; bytes.len(), 1_310_772);
+    assert_eq!(rt; outcome_of(alloc, &bytes), "opened");
 }
