@@ -8,9 +8,12 @@
 //! `task` has the table of tasks. A task more is a type with `Work`, a kind, and a row of that table.
 #![tactic(auto)]
 
+mod cipher;
 mod digest;
 mod error;
+mod format;
 mod script;
+mod stripe;
 mod task;
 
 use error::BenchError;

@@ -1,6 +1,9 @@
-use crate::digest::Digesting;
+use crate::cipher::{Counting, Sealing};
+use crate::digest::{Copying, Digesting};
 use crate::error::BenchError;
+use crate::format::{Chunking, Printing, Spelling};
 use crate::script::{Parsing, Playing, Reporting};
+use crate::stripe::{Encoding, Rebuilding};
 use std::alloc::Global;
 use std::time::Instant;
 
@@ -50,6 +53,14 @@ pub enum Kind {
     Report,
     Play,
     Sha256,
+    Copy,
+    Counter,
+    Gcm,
+    Seal,
+    ParseManifest,
+    PrintManifest,
+    Encode,
+    Rebuild,
 }
 
 /// Does a task once.
@@ -59,6 +70,14 @@ pub fn run(rt: &HostRuntime, kind: Kind, size: usize) -> Result<Timed, BenchErro
         Kind::Report => measure::<Reporting>(rt, size),
         Kind::Play => measure::<Playing>(rt, size),
         Kind::Sha256 => measure::<Digesting>(rt, size),
+        Kind::Copy => measure::<Copying>(rt, size),
+        Kind::Counter => measure::<Counting>(rt, size),
+        Kind::Gcm => measure::<Sealing>(rt, size),
+        Kind::Seal => measure::<Chunking>(rt, size),
+        Kind::ParseManifest => measure::<Spelling>(rt, size),
+        Kind::PrintManifest => measure::<Printing>(rt, size),
+        Kind::Encode => measure::<Encoding>(rt, size),
+        Kind::Rebuild => measure::<Rebuilding>(rt, size),
     }
 }
 
@@ -70,8 +89,8 @@ pub struct Task {
     pub large: usize,
 }
 
-/// The tasks. The sizes of the first three count reads, and those of `sha256` bytes.
-pub static TASKS: [Task; 4] = [
+/// The tasks. The sizes of the first three count reads, those of `sha256`, `copy`, `ctr` and `gcm` bytes, and the others chunks.
+pub static TASKS: [Task; 12] = [
     Task {
         name: "script",
         kind: Kind::Parse,
@@ -95,5 +114,53 @@ pub static TASKS: [Task; 4] = [
         kind: Kind::Sha256,
         small: 4096,
         large: 67_108_864,
+    },
+    Task {
+        name: "copy",
+        kind: Kind::Copy,
+        small: 4096,
+        large: 67_108_864,
+    },
+    Task {
+        name: "ctr",
+        kind: Kind::Counter,
+        small: 4096,
+        large: 268_435_456,
+    },
+    Task {
+        name: "gcm",
+        kind: Kind::Gcm,
+        small: 4096,
+        large: 67_108_864,
+    },
+    Task {
+        name: "seal",
+        kind: Kind::Seal,
+        small: 1,
+        large: 16,
+    },
+    Task {
+        name: "parse",
+        kind: Kind::ParseManifest,
+        small: 3,
+        large: 20_480,
+    },
+    Task {
+        name: "print",
+        kind: Kind::PrintManifest,
+        small: 3,
+        large: 20_480,
+    },
+    Task {
+        name: "encode",
+        kind: Kind::Encode,
+        small: 1,
+        large: 64,
+    },
+    Task {
+        name: "rebuild",
+        kind: Kind::Rebuild,
+        small: 1,
+        large: 64,
     },
 ];
