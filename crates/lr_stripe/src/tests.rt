@@ -1,5 +1,8 @@
+ghost use Rattle.std.specs.Prelude.{◌≡◌, ◌<◌, length, IfOk};
+
 use crate::{Code, STRIPE, Stripe};
 use lr_manifest::{CHUNK, Chunk};
+use std::alloc::{AllocError, Global};
 use std::test::Fail;
 
 fn stripe_of_four(chunk: [u8; 4], j: u8) -> u8
@@ -41,11 +44,21 @@ fn any_four_of_five_rebuild(rt: HostRuntime) {
     assert_eq!(rt; out, [1, 2, 3, 4]);
 }
 
+// So many bytes of this value.
+fn filled(alloc: Global, size: usize, byte: u8) -> Result<Vec<u8>, AllocError>
+    ensures { IfOk result (λ v. length v.items ≡ size) }
+{
+    vec![in alloc; byte; size]
+}
+
+fn chunk_of(alloc: Global, byte: u8) -> Result<Chunk, AllocError> {
+    Ok(Chunk::of(filled(alloc, CHUNK, byte)?))
+}
+
 #[test]
 fn a_stripe_is_good_until_it_is_damaged(rt: HostRuntime) -> Result<(), Fail> {
-    let alloc = rt.alloc();
-    let chunk = Chunk::of(vec![in alloc; 7; CHUNK]?);
-    let stripe = Stripe::make(alloc, &chunk, 4).unwrap();
+    let chunk = chunk_of(rt.alloc(), 7)?;
+    let stripe = Stripe::make(rt.alloc(), &chunk, 4)?;
     assert_eq!(rt; stripe.bytes.as_slice().len(), STRIPE);
     assert!(rt; stripe.good(chunk.name(), 4));
     assert!(rt; !stripe.good(chunk.name(), 3));
