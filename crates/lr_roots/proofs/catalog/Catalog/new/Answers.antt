@@ -1,0 +1,7 @@
+use Rattle.std.proofs.Common.{sym, subst}
+use Rattle.lr_roots.specs.Catalog.{IsWhole}
+use Rattle.lr_roots.proofs.Aside.{whole_empty}
+use Rattle.lr_roots.proofs.catalog.Catalog.new.Goals as goal
+
+pub invariant_of-result : goal.invariant_of-result
+invariant_of-result c = (subst IsWhole (sym c.new.ensures) whole_empty, λ key e. cc)
