@@ -13,9 +13,10 @@ use std::alloc::Global;
 fn put_copies(out: &mut Vec<u8>, count: usize, byte: u8) -> Result<(), OutOfMemory>
     ensures { OnOk result (out.new.items ≡ out.old.items ++ replicate count byte) }
 {
-    for _ in 0..count {
-        out.push(byte)?;
-    }
+    let Some(whole) = out.len().checked_add(count) else {
+        return Err(OutOfMemory);
+    };
+    out.resize(whole, byte)?;
     Ok(())
 }
 

@@ -9,6 +9,20 @@ use std::test::Fail;
 const HEAD: &[u8] =
     b"script 1\nroot 1111111111111111111111111111111111111111111111111111111111111111\nhost h 4\nimage a aaaaaaaaaaaaaaaaaaaaaaaaaaaaaaaaaaaaaaaaaaaaaaaaaaaaaaaaaaaaaaaa 5000 bytes 1x41 1x42\ndevice d h a aaaaaaaaaaaaaaaaaaaaaaaaaaaaaaaaaaaaaaaaaaaaaaaaaaaaaaaaaaaaaaaa\nactor p\n";
 
+// The first two lines of a script, its host's line, its image's up to the raw length, its device's, and the
+// lines behind that.
+const ROOT: &[u8] =
+    b"script 1\nroot 1111111111111111111111111111111111111111111111111111111111111111\n";
+
+const HOST: &[u8] = b"host h 4\n";
+
+const IMAGE: &[u8] = b"image a aaaaaaaaaaaaaaaaaaaaaaaaaaaaaaaaaaaaaaaaaaaaaaaaaaaaaaaaaaaaaaaa ";
+
+const DEVICE: &[u8] =
+    b"device d h a aaaaaaaaaaaaaaaaaaaaaaaaaaaaaaaaaaaaaaaaaaaaaaaaaaaaaaaaaaaaaaaa\n";
+
+const JOBS: &[u8] = b"actor p\nread d 0 512\n";
+
 const ONE_READ: &[u8] = b"device d a 8192\np read 0 512 1x41 1x42 510x00\nactor p ended\n1 done\n";
 
 // What the top call answered, and what it wrote.
@@ -23,6 +37,17 @@ struct Answer {
 fn script(alloc: Global, jobs: &[u8]) -> Result<Vec<u8>, Fail> {
     let mut text = Vec::from_slice(alloc, HEAD)?;
     text.extend_from_slice(jobs)?;
+    Ok(text)
+}
+
+// These pieces, each so many times.
+fn joined(alloc: Global, pieces: &[(&[u8], usize)]) -> Result<Vec<u8>, Fail> {
+    let mut text = Vec::new(alloc);
+    for (piece, times) in pieces {
+        for _ in 0..*times {
+            text.extend_from_slice(*piece)?;
+        }
+    }
     Ok(text)
 }
 
@@ -184,5 +209,133 @@ fn each_prefix_of_a_script_is_told_apart(rt: HostRuntime) -> Result<(), Fail> {
         }
     }
     assert_eq!(rt; line, b'8');
+    Ok(())
+}
+
+// A script that keeps a limit of its setup is played, and one that passes it is refused at that line. The image of
+// 64 MiB is accepted, and a later line refused, since to make it takes long.
+#[test]
+fn limits_of_the_setup_are_told(rt: HostRuntime) -> Result<(), Fail> {
+    let raw = b"64 bytes".as_slice();
+    let played = b"".as_slice();
+    let third = b"script line 3".as_slice();
+    let fourth = b"script line 4".as_slice();
+    let sixth = b"script line 6".as_slice();
+    for (host, raw, run, runs, jobs, line) in [
+        (
+            b"host h 0\n".as_slice(),
+            raw,
+            b"".as_slice(),
+            0,
+            JOBS,
+            third,
+        ),
+        (b"host h 1\n", raw, b"", 0, JOBS, played),
+        (b"host h 1024\n", raw, b"", 0, JOBS, played),
+        (b"host h 1025\n", raw, b"", 0, JOBS, third),
+        (b"host h\x7f 4\n", raw, b"", 0, JOBS, third),
+        (b"host h\x1f4\n", raw, b"", 0, JOBS, third),
+        (HOST, b"0 bytes", b"", 0, JOBS, played),
+        (
+            HOST,
+            b"67108864 bytes",
+            b"",
+            0,
+            b"actor after\nread d 0 512\n",
+            sixth,
+        ),
+        (HOST, b"67108865 bytes", b"", 0, JOBS, fourth),
+        (HOST, b"65 bytes", b" 1x41", 64, JOBS, played),
+        (HOST, b"65 bytes", b" 1x41", 65, JOBS, fourth),
+        (HOST, b"3 bytes", b" 1x41 2x42", 1, JOBS, played),
+        (HOST, b"3 bytes", b" 1x41 3x42", 1, JOBS, fourth),
+        (HOST, b"4096 bytes", b" 1x41", 800, JOBS, fourth),
+        (HOST, raw, b"", 0, b"actor serial\nread d 0 512\n", sixth),
+        (HOST, raw, b"", 0, b"actor rounds\nread d 0 512\n", sixth),
+        (HOST, raw, b"", 0, b"actor afters\nread d 0 512\n", played),
+    ] {
+        let text = joined(
+            rt.alloc(),
+            &[
+                (ROOT, 1),
+                (host, 1),
+                (IMAGE, 1),
+                (raw, 1),
+                (run, runs),
+                (b"\n", 1),
+                (DEVICE, 1),
+                (jobs, 1),
+            ],
+        )?;
+        let answer = play(rt.alloc(), &text, None, None)?;
+        assert_eq!(rt; answer.line.as_slice(), line);
+        assert_eq!(rt; answer.status, if line.is_empty() { 0 } else { 3 });
+    }
+    Ok(())
+}
+
+// The same of the jobs: how many there are, the bytes of all their calls, and the bytes of a line and of the text.
+#[test]
+fn limits_of_the_jobs_are_told(rt: HostRuntime) -> Result<(), Fail> {
+    let range = b"read d 0 0\n".as_slice();
+    let long = b"read d 0 1048576\n".as_slice();
+    for (job, jobs, last, times, line) in [
+        (range, 20_000, b"".as_slice(), 0, b"".as_slice()),
+        (range, 20_000, range, 1, b"script line 20007"),
+        (long, 256, range, 1, b""),
+        (long, 256, b"read d 0 512\n", 1, b"script line 263"),
+        (long, 256, b"read d 0 1\n", 1, b"script line 263"),
+        (range, 2, b"x", 4_097, b"script line 9"),
+        (range, 2, b"x", 4_194_304, b"script line 9"),
+    ] {
+        let text = joined(rt.alloc(), &[(HEAD, 1), (job, jobs), (last, times)])?;
+        let answer = play(rt.alloc(), &text, None, None)?;
+        assert_eq!(rt; answer.line.as_slice(), line);
+        assert_eq!(rt; answer.status, if line.is_empty() { 0 } else { 3 });
+    }
+    Ok(())
+}
+
+// Bytes of 64 runs print as these. Bytes of 65 print as their SHA-256, which the tool `sha256sum` gave for
+// 32 times `AB` and 448 zeros.
+#[test]
+fn bytes_of_many_runs_print_as_their_digest(rt: HostRuntime) -> Result<(), Fail> {
+    let front = b"device d a 4096\np read 0 512".as_slice();
+    let end = b"\nactor p ended\n1 done\n".as_slice();
+    for (last, text, times, behind) in [
+        (
+            b" 1x41\n".as_slice(),
+            b" 1x41 1x42".as_slice(),
+            31,
+            b" 1x41 449x00".as_slice(),
+        ),
+        (
+            b" 1x41 1x42\n",
+            b"",
+            0,
+            b" sha256 b9ebaa1b2bd50d4baf2d271d9a7421d8fc8db9df292f67555dae5f560424ec6b",
+        ),
+    ] {
+        let script = joined(
+            rt.alloc(),
+            &[
+                (ROOT, 1),
+                (HOST, 1),
+                (IMAGE, 1),
+                (b"512 bytes", 1),
+                (b" 1x41 1x42", 31),
+                (last, 1),
+                (DEVICE, 1),
+                (JOBS, 1),
+            ],
+        )?;
+        let report = joined(
+            rt.alloc(),
+            &[(front, 1), (text, times), (behind, 1), (end, 1)],
+        )?;
+        let answer = play(rt.alloc(), &script, None, None)?;
+        assert_eq!(rt; answer.status, 0);
+        assert_eq!(rt; answer.written.as_slice(), report.as_slice());
+    }
     Ok(())
 }

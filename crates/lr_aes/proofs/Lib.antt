@@ -1,0 +1,10 @@
+pub mod TableFacts
+pub mod Words
+pub mod KeyWords
+pub mod KeyFacts
+pub mod CounterFacts
+pub mod Twice
+pub mod Blocks
+pub mod Hash
+pub mod Count
+pub mod ExampleFacts

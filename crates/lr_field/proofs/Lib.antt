@@ -1,0 +1,5 @@
+pub mod Computed
+pub mod Linear
+pub mod FieldLaws
+pub mod Polynomials
+pub mod Fixed
