@@ -1,5 +1,5 @@
 -- A view with one key aside.
-use Rattle.std.proofs.Common.{◌≡◌, ◌≢◌, ◌<◌, ◌≤◌, ℕ, arith, Bool, true, false, Option, Some, None, IsSome, unwrap_or, refl, sym, ap, subst, ◌∙◌, inl, inr}
+use Rattle.std.proofs.Common.{◌≡◌, ◌≢◌, ◌<◌, ◌≤◌, ◌^◌, ℕ, arith, Bool, true, false, List, [], ◌∷◌, Option, Some, None, IsSome, unwrap_or, refl, sym, ap, subst, ◌∙◌, inl, inr}
 use mathlib.Core.Logic.{◌⊎◌}
 use Rattle.std.specs.Option.{option_map}
 use Rattle.std.specs.Ordering.{eq_by_cmp}
@@ -12,6 +12,7 @@ use Rattle.lr_origin.specs.declared.key.KeyKind.TheVariants.{Root, Expired, Dele
 use Rattle.lr_origin.specs.Kind.{kind_cmp, kind_total, kind_exact}
 use Rattle.lr_origin.specs.Text.{IsKind, HasRoot}
 use Rattle.lr_roots.specs.View.{View, Held, Has, Lacks, Fits}
+use Rattle.lr_roots.specs.Names.{IsNamed, AreFewer}
 use Rattle.lr_roots.specs.Catalog.{Seen, without, aside_of, with_key, IsWhole}
 use Rattle.lr_roots.proofs.Trees.{same_key}
 
@@ -69,17 +70,54 @@ pub is_none : (o : Option Held) → (IsSome o → ⊥) → o ≡ None
 is_none None h = refl
 is_none (Some x) h = absurd (h refl)
 
+has_before : (all : View) (a key : KeyKind) → Has (fin.remove all a) key → Has all key
+has_before all a key has = by (cases_Bool (eq_by_cmp kind_cmp key a))
+  where
+    by : (eq_by_cmp kind_cmp key a ≡ true) ⊎ (eq_by_cmp kind_cmp key a ≡ false) → Has all key
+    by (inl e) = let h : IsSome {T = Held} None = subst IsSome (get-remove kind_total all a key ∙ cond-true _ None _ e) has in cc
+    by (inr e) = subst IsSome (get-remove kind_total all a key ∙ cond-false _ None _ e) has
+
 -- a kind outside the limits has no key
 pub lacks_outside : (aside : Option KeyKind) (all : View) (key : KeyKind) → IsWhole all → (HasRoot key → ⊥) → Lacks (without aside all) key
 lacks_outside None all key whole outside = is_none _ (λ has. outside (root_of_kind key (whole.kinds key has)))
-lacks_outside (Some a) all key whole outside = is_none _ (λ has. outside (root_of_kind key (whole.kinds key (has_before a key has))))
+lacks_outside (Some a) all key whole outside = is_none _ (λ has. outside (root_of_kind key (whole.kinds key (has_before all a key has))))
+
+-- a key of the view is one of all keys
+pub has_all : (aside : Option KeyKind) (all : View) (key : KeyKind) → Has (without aside all) key → Has all key
+has_all None all key has = has
+has_all (Some a) all key has = has_before all a key has
+
+-- no root above the limit has a manifest
+pub lacks_manifest : (aside : Option KeyKind) (all : View) (r : ℕ) (image : List ℕ) → IsWhole all → 1000 < r → Lacks (without aside all) (Manifest r image)
+lacks_manifest aside all r image whole above = lacks_outside aside all (Manifest r image) whole (λ h. outside h)
   where
-    has_before : (a key : KeyKind) → Has (fin.remove all a) key → Has all key
-    has_before a key has = by (cases_Bool (eq_by_cmp kind_cmp key a))
-      where
-        by : (eq_by_cmp kind_cmp key a ≡ true) ⊎ (eq_by_cmp kind_cmp key a ≡ false) → Has all key
-        by (inl e) = let h : IsSome {T = Held} None = subst IsSome (get-remove kind_total all a key ∙ cond-true _ None _ e) has in cc
-        by (inr e) = subst IsSome (get-remove kind_total all a key ∙ cond-false _ None _ e) has
+    outside : (1 ≤ r) × (r ≤ 1000) → ⊥
+    outside h = let most : r ≤ 1000 = h.1 in omega (arith, above)
+
+-- fewer keys name fewer images
+pub fewer_named : (v w : View) (most : ℕ) → ((q : KeyKind) → Has v q → Has w q) → AreFewer (IsNamed w) most → AreFewer (IsNamed v) most
+fewer_named v w most within few some each apart = few some (λ x i. let named : IsNamed v x = each x i in (named.0, within named.0 named.1, named.2)) apart
+
+pub few_empty : AreFewer (IsNamed fin.empty) (2 ^ 32)
+few_empty [] each apart = omega arith
+few_empty (x ∷ xs) each apart =
+    let named : IsNamed fin.empty x = each x (inl refl) in
+    let h : IsSome {T = Held} None = subst IsSome (get-empty kind_cmp named.0) named.1 in cc
+
+-- a key that was put makes all keys of the view and itself
+pub has_any : (now v : View) (key : KeyKind) (held : Held) → fin.remove now key ≡ v → (q : KeyKind) → Has now q → Has (fin.insert v key held) q
+has_any now v key held e q has = by (cases_Bool (eq_by_cmp kind_cmp q key))
+  where
+    by : (eq_by_cmp kind_cmp q key ≡ true) ⊎ (eq_by_cmp kind_cmp q key ≡ false) → Has (fin.insert v key held) q
+    by (inl y) = subst IsSome (sym (get-insert kind_total v key held q ∙ cond-true _ (Some held) _ y)) refl
+    by (inr n) = subst IsSome (sym (get-insert kind_total v key held q ∙ cond-false _ (Some held) _ n ∙ ap (λ w. fin.get w q) (sym e) ∙ get-remove kind_total now key q ∙ cond-false _ None _ n)) has
+
+-- the names of a view with a key aside
+pub few_prepared : (now v : View) (key : KeyKind) (held : Held) → fin.remove now key ≡ v → AreFewer (IsNamed (fin.insert v key held)) (2 ^ 32) → AreFewer (IsNamed now) (2 ^ 32)
+few_prepared now v key held e few = fewer_named now (fin.insert v key held) (2 ^ 32) (has_any now v key held e) few
+
+pub few_removed : (all : View) (key : KeyKind) → AreFewer (IsNamed all) (2 ^ 32) → AreFewer (IsNamed (fin.remove all key)) (2 ^ 32)
+few_removed all key few = fewer_named (fin.remove all key) all (2 ^ 32) (has_before all key) few
 
 -- what the view has at a key that isn't aside
 pub get_visible : (aside : Option KeyKind) (all : View) (key : KeyKind) → aside ≢ Some key → fin.get (without aside all) key ≡ fin.get all key

@@ -1,3 +1,5 @@
 pub mod Trees
 pub mod Aside
 pub mod Downward
+pub mod Ordered
+pub mod Named

@@ -1,23 +1,22 @@
 -- The view that a tree's entries make.
-use Rattle.std.proofs.Common.{◌≡◌, Bool, true, false, cond, List, [], ◌∷◌, map, Option, Some, None, IsSome, refl, sym, ap, subst, ◌∙◌, inl, inr, option_map}
+use Rattle.std.proofs.Common.{◌≡◌, Bool, true, false, cond, List, [], ◌∷◌, length, map, Option, Some, None, refl, sym, ap, subst, ◌∙◌, inl, inr, option_map}
 use Rattle.std.specs.declared.cmp.Ordering.{Ordering}
 use Rattle.std.specs.declared.cmp.Ordering.TheVariants.{Less, Equal, Greater}
-use Rattle.std.specs.Ordering.{is_eq, is_gt, ordering_reverse, eq_by_cmp}
+use Rattle.std.specs.Ordering.{is_eq, eq_by_cmp}
 use Rattle.std.proofs.lemmas.Cmp.{eq_by_cmp_equiv}
-use Rattle.std.proofs.lemmas.Map.Entries.{place_from_lookup, btree_map_get_place}
+use Rattle.std.proofs.lemmas.Map.Keys.{sorted_head, sorted_tail}
 use Rattle.std.proofs.lemmas.Bool.{cases_Bool, cond-true, cond-false}
 use Rattle.std.specs.Map.{lookup, KeepsOthers, IsKeyTest, AreApart}
-use Rattle.std.specs.BTreeMap as tree
 use Rattle.std.specs.BTreeMap.{BTreeMap, is_at, UpdatesBy}
-use Rattle.std.specs.BTreeMap.Range.{IsRangeOf}
-use Rattle.std.specs.declared.ops.Bound.TheVariants.{Excluded, Unbounded}
 use Rattle.std.specs.FinMap as fin
-use Rattle.std.specs.FinMap.{find, get-from_entries, get-insert, get-remove, same_map}
+use Rattle.std.specs.List.{AllByRecursion}
+use Rattle.std.specs.List.Sorted.{IsStrictlySortedBy}
+use Rattle.std.specs.FinMap.{find, put, entries, empty, entries-insert, len-entries, len-empty, get-from_entries, get-insert, get-remove, same_map}
 use Rattle.lr_origin.specs.declared.key.KeyKind.{KeyKind}
 use Rattle.lr_origin.specs.Kind.{kind_cmp, kind_total, kind_exact}
 use Rattle.lr_roots.specs.declared.kept.Kept.{Kept}
-use Rattle.lr_roots.specs.View.{Has, Lacks}
-use Rattle.lr_roots.specs.Keys.{plain, plain_entry, view_of, IsNextKey}
+use Rattle.lr_roots.specs.View.{Held}
+use Rattle.lr_roots.specs.Keys.{plain, plain_entry, view_of}
 
 -- whether it is this key
 abbrev pub at_key : KeyKind → KeyKind → Bool
@@ -77,34 +76,30 @@ removed old new key h = same_map kind_total kind_exact _ _ (λ q.
     get_view new q ∙ ap (option_map plain) (h q) ∙ plain-cond (eq_by_cmp kind_cmp q key) None _
     ∙ ap (cond (eq_by_cmp kind_cmp q key) None) (sym (get_view old q)) ∙ sym (get-remove kind_total (view_of old) key q))
 
--- where no key of the tree has P, no key of the view has it
-pub absent : (m : BTreeMap KeyKind Kept) → tree.IsOrdered kind_cmp m → (P : KeyKind → Type 0) → ((k : KeyKind) → P k → IsSome (tree.get kind_cmp m k) → ⊥) → (q : KeyKind) → P q → Lacks (view_of m.entries) q
-absent m ordered P none q p = get_view m.entries q ∙ by (lookup (at_key q) m.entries) refl
-  where
-    by : (o : Option Kept) → lookup (at_key q) m.entries ≡ o → option_map plain o ≡ None
-    by None e = refl
-    by (Some v) e =
-        let place = place_from_lookup (at_key q) m.entries v e in
-        let same = same_key q place.1 place.3 in
-        absurd (none place.1 (subst P same p) (subst IsSome (sym (btree_map_get_place kind_total m place.0 place.1 v ordered place.2)) refl))
+-- the keys of some entries, in order
+abbrev keys_of : List (KeyKind × Kept) → List KeyKind
+keys_of es = map (λ e. e.0) es
 
--- a key of the tree is a key of the view
-pub present : (m : BTreeMap KeyKind Kept) (k : KeyKind) (v : Kept) → tree.get kind_cmp m k ≡ Some v → Has (view_of m.entries) k
-present m k v e = subst IsSome (sym (get_view m.entries k ∙ ap (option_map plain) e)) refl
+no_length : (es : List (KeyKind × Held)) → length es ≡ 0 → es ≡ []
+no_length [] e = refl
+no_length (x ∷ es) e = cc
 
-above : (k x : KeyKind) → kind_cmp x k ≡ Less → is_gt (kind_cmp k x) ≡ false → ⊥
-above k x below e =
-    let gt : is_gt (kind_cmp k x) ≡ true = ap is_gt (kind_total.antisymm k x ∙ ap ordering_reverse below) in cc
+none_in_empty : entries (empty {X = Held} {R = kind_cmp}) ≡ []
+none_in_empty = no_length _ (sym (len-entries empty) ∙ len-empty kind_cmp Held)
 
--- the first key past another
-pub first_past : (m : BTreeMap KeyKind Kept) → tree.IsOrdered kind_cmp m → (a k : KeyKind) (v : Kept) (rest r : List (KeyKind × Kept)) → IsRangeOf kind_cmp (Excluded a) Unbounded m r → r ≡ (k, v) ∷ rest → IsNextKey a (view_of m.entries) (Some k)
-first_past m ordered a k v rest r h e =
-    let in_range : IsRangeOf kind_cmp (Excluded a) Unbounded m ((k, v) ∷ rest) = subst (λ r. IsRangeOf kind_cmp (Excluded a) Unbounded m r) e h in
-    let P : KeyKind → Type 0 = λ l. (kind_cmp a l ≡ Less) × (kind_cmp l k ≡ Less) in
-    (in_range.1.0.0, present m k v in_range.1.1, λ q after less. absent m ordered P (λ x p here. above k x p.1 (in_range.2 x (p.0, tt) here)) q (after, less))
+in_front : (e : KeyKind × Kept) (es : List (KeyKind × Kept)) → AllByRecursion (λ y. kind_cmp e.0 y ≡ Less) (keys_of es) → put kind_cmp e.0 (plain e.1) (map plain_entry es) ≡ plain_entry e ∷ map plain_entry es
+in_front e [] h = refl
+in_front e (f ∷ es) h = rw h.0 refl
 
-pub none_past : (m : BTreeMap KeyKind Kept) → tree.IsOrdered kind_cmp m → (a : KeyKind) (r : List (KeyKind × Kept)) → IsRangeOf kind_cmp (Excluded a) Unbounded m r → r ≡ [] → IsNextKey a (view_of m.entries) None
-none_past m ordered a r h e q after = absent m ordered (λ l. kind_cmp a l ≡ Less) (λ x p here. gone _ here (h.5 e x (p, tt))) q after
-  where
-    gone : (o : Option Kept) → IsSome o → o ≡ None → ⊥
-    gone o some none = let e : IsSome {T = Kept} None = subst IsSome none some in cc
+-- the entries of the view are those of the tree, where these are in order
+entries_view : (es : List (KeyKind × Kept)) → IsStrictlySortedBy kind_cmp (keys_of es) → entries (view_of es) ≡ map plain_entry es
+entries_view [] s = none_in_empty
+entries_view (e ∷ es) s =
+    entries-insert kind_total (view_of es) e.0 (plain e.1) ∙ ap (put kind_cmp e.0 (plain e.1)) (entries_view es (sorted_tail kind_cmp e.0 (keys_of es) s)) ∙ in_front e es (sorted_head kind_cmp e.0 (keys_of es) s)
+
+same_keys : (es : List (KeyKind × Kept)) → map (λ (e : KeyKind × Held). e.0) (map plain_entry es) ≡ keys_of es
+same_keys [] = refl
+same_keys (e ∷ es) = ap (λ ks. e.0 ∷ ks) (same_keys es)
+
+pub keys_view : (es : List (KeyKind × Kept)) → IsStrictlySortedBy kind_cmp (map (λ e. e.0) es) → fin.keys (view_of es) ≡ map (λ e. e.0) es
+keys_view es s = ap (map (λ (e : KeyKind × Held). e.0)) (entries_view es s) ∙ same_keys es

@@ -1,15 +1,13 @@
 -- The keys of a tree, as a view.
-use Rattle.std.specs.Prelude.{◌≡◌, List, Option, Some, None, IsSome}
+use Rattle.std.specs.Prelude.{List, Option, Some, None}
 use Rattle.std.specs.Prelude as std
 use Rattle.std.specs.Arc.{arc_value}
 use denote.Ref.{Bor}
-use Rattle.std.specs.declared.cmp.Ordering.TheVariants.{Less}
 use Rattle.std.specs.FinMap as map
-use Rattle.lr_origin.specs.Kind.{kind_cmp}
 use Rattle.lr_origin.specs.declared.key.KeyKind.{KeyKind}
 use Rattle.lr_roots.specs.declared.kept.Kept as kept
 use Rattle.lr_roots.specs.declared.kept.Kept.TheVariants as variants
-use Rattle.lr_roots.specs.View.{View, Held, salt, manifest, bare, Has, Lacks}
+use Rattle.lr_roots.specs.View.{View, Held, salt, manifest, bare}
 
 -- what is kept, an `Arc` by its value
 abbrev pub plain : kept.Kept → Held
@@ -33,9 +31,3 @@ held_of (Some r) = Some (plain r.now)
 abbrev pub key_of : Option (Bor KeyKind) → Option KeyKind
 key_of None = None
 key_of (Some r) = Some r.now
-
--- The least key of the view above this one, or none where no key is above it.
-abbrev pub IsNextKey : KeyKind → View → Option KeyKind → Type 0
-IsNextKey after v None = (q : KeyKind) → kind_cmp after q ≡ Less → Lacks v q
-IsNextKey after v (Some key) =
-    (kind_cmp after key ≡ Less) × Has v key × ((q : KeyKind) → kind_cmp after q ≡ Less → kind_cmp q key ≡ Less → Lacks v q)

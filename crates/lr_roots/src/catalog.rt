@@ -1,10 +1,10 @@
 //! The view that the depot reads and changes.
-ghost use Rattle.std.specs.Prelude.{◌≡◌, ◌<◌, ◌^◌, ◌↔◌, ℕ, IsTrue, OnOk, OnErr, Some, None, option_copied};
+ghost use Rattle.std.specs.Prelude.{◌≡◌, ◌^◌, ◌↔◌, IsTrue, OnOk, OnErr, Some, None, option_copied};
 ghost use Rattle.std.specs.FinMap as map;
 ghost use Rattle.lr_origin.specs.declared.key.KeyKind.TheVariants as kind;
 ghost use Rattle.lr_roots.specs.View.{Has, Lacks, Fits};
 ghost use Rattle.lr_roots.specs.Keys.{plain, held_of};
-ghost use Rattle.lr_roots.specs.Names.{AreMany, IsNamed};
+ghost use Rattle.lr_roots.specs.Names.{AreFewer, IsNamed};
 ghost use Rattle.lr_roots.specs.Catalog.{with_key, salt_of, manifest_of, arc_of};
 
 use crate::kept::Kept;
@@ -23,16 +23,17 @@ use std::sync::Arc;
 /// memory.
 #[derive(Drop)]
 pub struct Catalog {
-    keys: Keys,
+    pub(crate) keys: Keys,
     pub(crate) aside: Option<Key>,
 }
 
 impl Model for Catalog {
-    ghost use Rattle.std.specs.Prelude.{◌≡◌, Some};
+    ghost use Rattle.std.specs.Prelude.{◌≡◌, ◌^◌, Some};
     ghost use Rattle.lr_manifest.specs.contracts.manifest.Manifest as manifests;
     ghost use Rattle.lr_origin.specs.contracts.key.KeyKind as kinds;
     ghost use Rattle.lr_origin.specs.declared.key.KeyKind.{KeyKind as Kind};
     ghost use Rattle.lr_roots.specs.View.{Has};
+    ghost use Rattle.lr_roots.specs.Names.{AreFewer, IsNamed};
     ghost use Rattle.lr_roots.specs.Catalog.{Seen, seen_code, without, aside_of, IsWhole};
 
     ghost Value = { Seen };
@@ -41,7 +42,7 @@ impl Model for Catalog {
 
     ghost view = { λ a. record { view = without a.aside a.keys; aside = aside_of a.aside a.keys } };
 
-    ghost invariant = { λ a. IsWhole a.keys × ((key : Kind) → a.aside ≡ Some key → Has a.keys key) };
+    ghost invariant = { λ a. IsWhole a.keys × ((key : Kind) → a.aside ≡ Some key → Has a.keys key) × AreFewer (IsNamed a.keys) (2 ^ 32) };
 }
 
 // Whether this key stands aside.
@@ -71,7 +72,7 @@ impl Catalog {
     pub fn prepare(&mut self, _alloc: Global, key: Key, body: Kept) -> Result<(), OutOfMemory>
         requires absent { Lacks self.old.view key }
         requires fits { Fits key (plain body) }
-        requires few { (count : ℕ) → AreMany (IsNamed (map.insert self.old.view key (plain body))) count → count < 2 ^ 32 }
+        requires few { AreFewer (IsNamed (map.insert self.old.view key (plain body))) (2 ^ 32) }
         ensures ok { OnOk result (self.new ≡ record { view = self.old.view; aside = Some (key, plain body) }) }
         ensures err { OnErr result (self.new ≡ self.old) }
     {

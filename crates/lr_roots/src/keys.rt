@@ -1,14 +1,15 @@
 //! Keys in byte order with what is kept of their objects, which a contract sees as a finite map.
-ghost use Rattle.std.specs.Prelude.{◌≡◌, OnOk, OnErr};
+ghost use Rattle.std.specs.Prelude.{◌≡◌, ◌<◌, ◌^◌, length, OnOk, OnErr};
 ghost use Rattle.std.specs.FinMap as map;
-ghost use Rattle.lr_roots.specs.Keys.{plain, held_of, key_of, IsNextKey};
+ghost use Rattle.std.specs.List.Sorted.{IsStrictlySortedBy};
+ghost use Rattle.lr_origin.specs.Kind.{kind_cmp};
+ghost use Rattle.lr_roots.specs.Keys.{plain, held_of};
 
 use crate::kept::Kept;
 use lr_origin::Key;
 use std::alloc::{AllocError, Global};
-use std::collections::BTreeMap;
+use std::collections::{BTreeMap, btree_map};
 use std::marker::Model;
-use std::ops::Bound;
 
 /// An ordered map of keys.
 #[derive(Drop)]
@@ -61,14 +62,12 @@ impl Keys {
         self.entries.remove(key);
     }
 
-    /// The least key above this one.
-    pub fn next(&self, after: &Key) -> Option<&Key>
-        ensures { IsNextKey after.now self.now (key_of result) }
+    /// All keys in byte order.
+    pub fn iter(&self) -> btree_map::Keys<'_, Key, Kept>
+        ensures list { result ≡ map.keys self.now }
+        ensures ordered { IsStrictlySortedBy kind_cmp result }
+        ensures fits { length result < 2 ^ 63 }
     {
-        let bounds = (Bound::Excluded(after), Bound::Unbounded);
-        match self.entries.range(bounds).next() {
-            Some((key, _)) => Some(key),
-            None => None,
-        }
+        self.entries.keys()
     }
 }

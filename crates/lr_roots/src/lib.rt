@@ -2,14 +2,18 @@
 //! store.
 //!
 //! `keys` holds the ordered map of keys, `catalog` the view that the depot reads and changes, `roots` the questions
-//! about roots and images. Only `Catalog::prepare` takes memory.
+//! about roots and images, `walks` the search through the keys, `names` the counts and names that it finds, `foreign`
+//! the rules of a sound store. Only `Catalog::prepare` takes memory.
 #![tactic(auto)]
 
 mod catalog;
+mod foreign;
 mod kept;
 mod keys;
+mod names;
 mod roots;
 mod state;
+mod walks;
 
 pub use catalog::Catalog;
 pub use kept::Kept;

@@ -1,7 +1,8 @@
 //! Questions about roots and the homes of images.
-ghost use Rattle.std.specs.Prelude.{◌≡◌, ◌<◌, ◌↔◌, ℕ, IsTrue, MatchOption, Some, None, All};
+ghost use Rattle.std.specs.Prelude.{◌≡◌, ◌<◌, ◌≤◌, ◌↔◌, ℕ, IsTrue, MatchOption, Some, None, All};
 ghost use Rattle.lr_origin.specs.declared.key.KeyKind.TheVariants as kind;
-ghost use Rattle.lr_roots.specs.View.{Has};
+ghost use Rattle.lr_roots.specs.View.{Has, Lacks};
+ghost use Rattle.lr_roots.specs.Foreign.{IsFirstRoot};
 ghost use Rattle.lr_roots.specs.Roots.{IsLive, IsTop, IsRootState, IsHome, IsHomeless, IsMissing};
 
 use crate::catalog::Catalog;
@@ -93,5 +94,46 @@ impl Catalog {
             }
         }
         None
+    }
+
+    // The least root from 1 to this one that isn't there.
+    pub(crate) fn gap(&self, last: u32) -> Option<u32>
+        ensures { MatchOption result ((q : ℕ) → 1 ≤ q → q ≤ last → Has self.now.view (kind.Root q)) (λ q. (1 ≤ q) × (q ≤ last) × Lacks self.now.view (kind.Root q)) }
+    {
+        for step in 0..last {
+            let root = step + 1;
+            if !self.has_kind(KeyKind::Root(root)) {
+                return Some(root);
+            }
+        }
+        None
+    }
+
+    // The least root that has a manifest of the image.
+    pub(crate) fn first_root(&self, image: &ImageName) -> Option<u32>
+        ensures { MatchOption result ((q : ℕ) → Lacks self.now.view (kind.Manifest q image.now)) (λ root. IsFirstRoot self.now.view image.now root) }
+    {
+        // Each key of the view is of the grammar, so no root is above the limit.
+        let _aside = &self.aside;
+        for root in 0..ROOTS_MAX + 1 {
+            if self.has_kind(KeyKind::Manifest(root, *image)) {
+                return Some(root);
+            }
+        }
+        None
+    }
+
+    // Whether no root above this one has a manifest of the image.
+    pub(crate) fn is_last_root(&self, root: u32, image: &ImageName) -> bool
+        ensures { IsTrue result ↔ ((q : ℕ) → root < q → Lacks self.now.view (kind.Manifest q image.now)) }
+    {
+        // Each key of the view is of the grammar, so no root is above the limit.
+        let _aside = &self.aside;
+        for later in 0..ROOTS_MAX + 1 {
+            if root < later && self.has_kind(KeyKind::Manifest(later, *image)) {
+                return false;
+            }
+        }
+        true
     }
 }

@@ -1,9 +1,10 @@
-use Rattle.std.proofs.Common.{◌≡◌, ◌≢◌, Some, IsSome, sym, ap, subst, ◌∙◌}
+use Rattle.std.proofs.Common.{◌≡◌, ◌≢◌, ◌^◌, Some, IsSome, sym, ap, subst, ◌∙◌}
 use Rattle.std.proofs.lemmas.Bool.{false≢true}
 use Rattle.std.specs.FinMap as map
 use Rattle.lr_roots.specs.View.{View, Has}
+use Rattle.lr_roots.specs.Names.{AreFewer, IsNamed}
 use Rattle.lr_roots.specs.Catalog.{Seen, IsWhole, without, aside_of}
-use Rattle.lr_roots.proofs.Aside.{whole_removed, hidden_gone, removed_beside, get_kept}
+use Rattle.lr_roots.proofs.Aside.{whole_removed, few_removed, hidden_gone, removed_beside, get_kept}
 use Rattle.lr_roots.proofs.catalog.Catalog.remove.Goals as goal
 
 pub returns-then-is_aside : goal.returns-then-is_aside
@@ -17,6 +18,7 @@ pub invariant_of-self : goal.invariant_of-self
 invariant_of-self c = (
   subst IsWhole (sym c.remove.ensures) (whole_removed c.self.inside.keys c.args.key.now c.self.invariant.0),
   λ key e. subst (λ (v : View). Has v key) (sym c.remove.ensures) (subst IsSome (sym (get_kept c.self.inside.keys c.args.key.now key (λ same. false≢true (sym c.if-is_aside.false ∙ c.is_aside.ensures.1 (e ∙ ap Some same))))) (c.self.invariant.1 key e)),
+  subst (λ (v : View). AreFewer (IsNamed v) (2 ^ 32)) (sym c.remove.ensures) (few_removed c.self.inside.keys c.args.key.now c.self.invariant.2),
 )
 
 pub returns : goal.returns
