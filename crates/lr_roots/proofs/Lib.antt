@@ -3,3 +3,4 @@ pub mod Aside
 pub mod Downward
 pub mod Ordered
 pub mod Named
+pub mod Fewer

@@ -1,5 +1,5 @@
 -- The names of a view, each by the first key that names it.
-use Rattle.std.proofs.Common.{◌≡◌, ◌<◌, ◌≤◌, ◌+◌, ◌^◌, ℕ, zero, suc, arith, List, [], ◌∷◌, map, length, Option, Some, None, IsSome, refl, sym, ap, subst, ◌∙◌, inl, inr}
+use Rattle.std.proofs.Common.{◌≡◌, ◌<◌, ◌+◌, ℕ, zero, suc, arith, List, [], ◌∷◌, map, length, Option, Some, None, IsSome, refl, sym, ap, subst, ◌∙◌, inl, inr}
 use mathlib.Core.Logic.{◌⊎◌}
 use Rattle.std.proofs.lemmas.List.{length-map}
 use Rattle.std.specs.FinMap as fin
@@ -13,7 +13,7 @@ use Rattle.lr_roots.specs.Walks.{NamesFirst, IsWanted}
 use Rattle.lr_roots.proofs.Aside.{has_all, lacks_manifest, fewer_named}
 
 -- the name in a key
-name_in : KeyKind → List ℕ
+unfoldable pub name_in : KeyKind → List ℕ
 name_in (Manifest r image) = image
 name_in (Withdrawn image) = image
 name_in (Root r) = []

@@ -1,5 +1,5 @@
 -- Walks over keys in order.
-use Rattle.std.proofs.Common.{◌≡◌, ◌≢◌, ◌<◌, ◌≤◌, ◌+◌, ◌||◌, ℕ, suc, arith, Bool, true, false, List, [], ◌∷◌, map, length, Option, Some, None, IsSome, IfSome, refl, sym, ap, subst, ◌∙◌, inl, inr}
+use Rattle.std.proofs.Common.{◌≡◌, ◌<◌, ◌≤◌, ◌+◌, ◌||◌, ℕ, suc, arith, true, false, List, [], ◌∷◌, length, Option, Some, None, IsSome, IfSome, refl, sym, ap, subst, ◌∙◌, inl, inr}
 use mathlib.Core.Logic.{◌⊎◌}
 use Rattle.std.specs.declared.cmp.Ordering.{Ordering}
 use Rattle.std.specs.declared.cmp.Ordering.TheVariants.{Less, Equal, Greater}
@@ -17,11 +17,11 @@ use Rattle.std.specs.Cmp.Lexicographic.{nat_list_cmp_total}
 use Rattle.std.proofs.lemmas.Bool.{cases_Bool, false≢true}
 use Rattle.std.specs.FinMap.{contains_key-keys}
 use Rattle.lr_origin.specs.declared.key.KeyKind.TheVariants.{Root, Expired, Deleted, Chunk, Manifest, Withdrawn}
-use Rattle.lr_roots.specs.View.{View, Held, Has, Lacks, manifest}
+use Rattle.lr_roots.specs.View.{View, Has}
 use Rattle.lr_roots.specs.Catalog.{without}
 use Rattle.lr_roots.proofs.Trees.{same_key}
 use Rattle.lr_roots.proofs.Aside.{itself, has_all}
-use Rattle.lr_roots.specs.Names.{IsOneOf, AreApart, AreMany, IsFirst, Names, IsNamed, IsNextImage, IsManifestAt, number_of}
+use Rattle.lr_roots.specs.Names.{IsOneOf, AreMany, IsFirst, Names, IsNamed, IsNextImage, IsManifestAt, number_of}
 use Rattle.lr_roots.specs.Walks.{IsNearer, IsNearest}
 
 -- the keys that pass are among the rest, which is in order

@@ -1,5 +1,5 @@
 -- The rules of a sound store that the keys of a view can break, each with the key that breaks it.
-use Rattle.std.specs.Prelude.{◌≡◌, ◌≢◌, ◌⊎◌, ◌<◌, ◌≤◌, ℕ, List, Option, Some, None}
+use Rattle.std.specs.Prelude.{◌≡◌, ◌≢◌, ◌⊎◌, ◌<◌, ◌≤◌, ℕ, List, Some}
 use Rattle.std.specs.FinMap as map
 use Rattle.lr_manifest.specs.Manifest.{Fields}
 use Rattle.lr_origin.specs.declared.key.KeyKind.{KeyKind}

@@ -7,8 +7,8 @@ use Rattle.lr_manifest.specs.Manifest.{Fields}
 use Rattle.lr_origin.specs.Kind.{kind_cmp}
 use Rattle.lr_origin.specs.Objects.{key_cmp, IsAfter}
 use Rattle.lr_origin.specs.declared.key.KeyKind.{KeyKind}
-use Rattle.lr_origin.specs.declared.key.KeyKind.TheVariants.{Root, Expired, Deleted, Chunk, Manifest, Withdrawn}
-use Rattle.lr_roots.specs.View.{View, Has, Lacks, manifest}
+use Rattle.lr_origin.specs.declared.key.KeyKind.TheVariants.{Chunk, Manifest, Withdrawn}
+use Rattle.lr_roots.specs.View.{View, Has, manifest}
 
 -- x is one of the list
 abbrev pub IsOneOf : {A : Type 0} → List A → A → Type 0

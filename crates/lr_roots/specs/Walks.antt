@@ -3,7 +3,7 @@ use Rattle.std.specs.Prelude.{◌≡◌, ◌<◌, ◌⊎◌, ℕ, List, Option, 
 use Rattle.std.specs.declared.cmp.Ordering.TheVariants.{Less}
 use Rattle.lr_origin.specs.Objects.{key_cmp, IsAfter}
 use Rattle.lr_origin.specs.declared.key.KeyKind.{KeyKind}
-use Rattle.lr_origin.specs.declared.key.KeyKind.TheVariants.{Root, Expired, Deleted, Chunk, Manifest, Withdrawn}
+use Rattle.lr_origin.specs.declared.key.KeyKind.TheVariants.{Manifest, Withdrawn}
 use Rattle.lr_roots.specs.declared.walks.Wanted.{Wanted}
 use Rattle.lr_roots.specs.declared.walks.Wanted.TheVariants as wanted
 use Rattle.lr_roots.specs.View.{View, Has, Lacks}

@@ -18,3 +18,6 @@ mod walks;
 pub use catalog::Catalog;
 pub use kept::Kept;
 pub use state::RootState;
+
+#[cfg(test)]
+mod tests;

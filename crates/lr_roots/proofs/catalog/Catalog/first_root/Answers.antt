@@ -1,7 +1,7 @@
-use Rattle.std.proofs.Common.{◌≡◌, ◌<◌, ◌≤◌, ℕ, subst, inl, inr, arith}
+use Rattle.std.proofs.Common.{◌≡◌, ◌<◌, ℕ, subst, inl, inr, arith}
 use mathlib.Core.Logic.{◌⊎◌}
 use Rattle.lr_origin.specs.declared.key.KeyKind.TheVariants as kind
-use Rattle.lr_roots.specs.View.{View, Lacks}
+use Rattle.lr_roots.specs.View.{Lacks}
 use Rattle.lr_roots.specs.Catalog.{Seen}
 use Rattle.lr_roots.proofs.Aside.{lacks_manifest}
 use Rattle.lr_roots.proofs.catalog.Catalog.first_root.Goals as goal

@@ -1,4 +1,4 @@
-use Rattle.std.proofs.Common.{◌≡◌, Option, Some, None, IsSome, refl, sym, ap, subst, ◌∙◌, inl, rules}
+use Rattle.std.proofs.Common.{◌≡◌, Option, Some, None, inl, rules}
 use Rattle.std.specs.Arc.{arc_value}
 use Rattle.std.specs.FinMap as map
 use Rattle.lr_manifest.specs.Manifest.{Fields}
