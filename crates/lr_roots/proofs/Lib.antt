@@ -1,0 +1,6 @@
+pub mod Trees
+pub mod Aside
+pub mod Downward
+pub mod Ordered
+pub mod Named
+pub mod Fewer

@@ -1,0 +1,6 @@
+use Rattle.std.specs.Cmp.Lexicographic.{bytes_decides}
+use Rattle.std.proofs.lemmas.Slice.Eq.{slice_eq-Decides}
+use Rattle.lr_roots.proofs.foreign.are_same_keys.Goals as goal
+
+pub returns : goal.returns
+returns c = slice_eq-Decides bytes_decides _ _ _ c.eq.ensures
