@@ -5,3 +5,4 @@ pub mod Names
 pub mod Foreign
 pub mod Catalog
 pub mod Walks
+pub mod Sound

@@ -88,6 +88,13 @@ impl Catalog {
         self.first(&Wanted::Listed(root, after.copied()))
     }
 
+    /// Whether the image has a manifest in some root or is withdrawn.
+    pub fn is_named(&self, image: &ImageName) -> bool
+        ensures { IsTrue result ↔ IsNamed self.now.view image.now }
+    {
+        self.withdrawn(image) || self.first_root(image).is_some()
+    }
+
     // The best name so far, or a nearer one that a key of the view names.
     fn nearest(
         &self,
