@@ -11,9 +11,11 @@ use std::alloc::{AllocError, Global};
 use std::collections::{BTreeMap, btree_map};
 use std::marker::Model;
 
-/// An ordered map of keys.
+/// Keys in byte order with what is kept of their objects.
+///
+/// A contract sees a finite map from kinds to what is kept. Only `insert` takes memory.
 #[derive(Drop)]
-pub(crate) struct Keys {
+pub struct Keys {
     entries: BTreeMap<Key, Kept>,
 }
 
@@ -33,6 +35,7 @@ impl Model for Keys {
 }
 
 impl Keys {
+    /// No keys.
     pub fn new(alloc: Global) -> Self
         ensures { result ≡ map.empty }
     {
@@ -41,13 +44,14 @@ impl Keys {
         }
     }
 
+    /// What is kept under a key.
     pub fn get(&self, key: &Key) -> Option<&Kept>
         ensures { held_of result ≡ map.get self.now key.now }
     {
         self.entries.get(key)
     }
 
-    /// After an error the keys are as they were.
+    /// Puts a key in, in place of an equal one. After an error the keys are as they were.
     pub fn insert(&mut self, key: Key, body: Kept) -> Result<(), AllocError>
         ensures ok { OnOk result (self.new ≡ map.insert self.old key (plain body)) }
         ensures err { OnErr result (self.new ≡ self.old) }
@@ -56,6 +60,7 @@ impl Keys {
         Ok(())
     }
 
+    /// Takes a key out, where it is there.
     pub fn remove(&mut self, key: &Key)
         ensures { self.new ≡ map.remove self.old key.now }
     {

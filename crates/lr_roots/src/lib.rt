@@ -17,6 +17,7 @@ mod walks;
 
 pub use catalog::Catalog;
 pub use kept::Kept;
+pub use keys::Keys;
 pub use state::RootState;
 
 #[cfg(test)]

@@ -1,0 +1,52 @@
+//! Questions about the puts that are in doubt.
+ghost use Rattle.std.specs.Prelude.{◌≡◌, ◌↔◌, IsTrue, slice_get};
+ghost use Rattle.std.specs.FinMap as map;
+ghost use Rattle.lr_roots.specs.View.{Has};
+ghost use Rattle.lr_roots.specs.Keys.{key_of};
+ghost use Rattle.lr_roots.specs.Names.{IsFirst};
+ghost use Rattle.lr_depot.specs.Doubts.{IsManifestOfImage};
+
+use lr_origin::{ImageName, Key, KeyKind};
+use lr_roots::Keys;
+
+fn is_manifest_of(kind: &KeyKind, image: &ImageName) -> bool
+    ensures { IsTrue result ↔ IsManifestOfImage image.now kind.now }
+{
+    match kind {
+        KeyKind::Manifest(_, name) => name == image,
+        _ => false,
+    }
+}
+
+// The first key in doubt, in byte order, that is a manifest of the image.
+pub(crate) fn first_manifest<'a>(doubts: &'a Keys, image: &ImageName) -> Option<&'a Key>
+    ensures { IsFirst (λ k. Has doubts.now k × IsManifestOfImage image.now k) (key_of result) }
+{
+    for key in doubts.iter() {
+        if is_manifest_of(&key.kind(), image) {
+            return Some(key);
+        }
+    }
+    None
+}
+
+// Whether the put of this kind of key is in doubt.
+pub(crate) fn is_in_doubt(doubts: &Keys, key: &Key) -> bool
+    ensures { IsTrue result ↔ Has doubts.now key.now }
+{
+    doubts.get(key).is_some()
+}
+
+// The key in doubt at a place, counted from 0 in byte order.
+pub(crate) fn doubt_at(doubts: &Keys, at: u64) -> Option<&Key>
+    ensures { key_of result ≡ slice_get (map.keys doubts.now) at }
+{
+    let mut place: u64 = 0;
+    for key in doubts.iter() {
+        if place == at {
+            return Some(key);
+        }
+        place += 1;
+    }
+    None
+}

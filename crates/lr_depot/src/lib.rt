@@ -1,0 +1,14 @@
+//! The depot: the catalog over the store, with leases, sessions and the puts that are in doubt.
+//!
+//! `call` has the calls and replies, `numbered` the leases and sessions by their numbers, `doubts` the questions about
+//! puts in doubt, `put` one put with all that it does to the store and to what is known, `images` the count of image
+//! names, `depot` the object and its start and end, `log` what is left of it.
+#![tactic(auto)]
+
+mod call;
+mod doubts;
+mod images;
+mod numbered;
+mod put;
+
+pub use call::{DepotCall, DepotNoted, DepotReply, DepotTold};
