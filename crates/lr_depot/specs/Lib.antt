@@ -1,3 +1,6 @@
 pub mod Sessions
 pub mod Doubts
 pub mod Put
+pub mod Machine
+pub mod Store
+pub mod Kernel

@@ -6,6 +6,7 @@
 #![tactic(auto)]
 
 mod call;
+mod kernel;
 mod doubts;
 mod images;
 mod numbered;
