@@ -1,3 +1,6 @@
 pub mod Maps
 pub mod Keys
 pub mod Outcomes
+pub mod Sound
+pub mod Good
+pub mod Facts
