@@ -4,3 +4,5 @@ pub mod Outcomes
 pub mod Sound
 pub mod Good
 pub mod Facts
+pub mod Doubts
+pub mod Calls
