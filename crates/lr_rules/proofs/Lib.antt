@@ -6,3 +6,5 @@ pub mod Good
 pub mod Facts
 pub mod Doubts
 pub mod Calls
+pub mod Manifests
+pub mod Sessions
