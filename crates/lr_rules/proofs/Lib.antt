@@ -8,3 +8,5 @@ pub mod Doubts
 pub mod Calls
 pub mod Manifests
 pub mod Sessions
+pub mod Steps
+pub mod Start
