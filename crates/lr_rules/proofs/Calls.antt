@@ -13,8 +13,8 @@ use Rattle.lr_rules.specs.Known.{Known, Settles, Always, Agrees, Serves, IsItemO
 use Rattle.lr_rules.specs.State.{Job, Creates, Moves, State, Holds, target}
 use Rattle.lr_rules.specs.Safe.{Works, IsLeased, IsGood, IsSafe}
 use Rattle.lr_rules.specs.Calls.{knows, IsNew, MayRotate, MayPut, MayWithdraw, MayExpire, MayDelete, MaySweep}
-use Rattle.lr_rules.proofs.Keys.{cases_key, at_other, gone_key, gone_other}
-use Rattle.lr_rules.proofs.Outcomes.{no_some, not_both, is_some, view_settles, put_accepted, put_doubting, again_accepted, deleted_away, deleted_doubting}
+use Rattle.lr_rules.proofs.Keys.{no_some, cases_key, at_other, gone_key, gone_other}
+use Rattle.lr_rules.proofs.Outcomes.{not_both, is_some, view_settles, put_accepted, put_doubting, again_accepted, deleted_away, deleted_doubting}
 use Rattle.lr_rules.proofs.Sound.{lacks_or_has, still_serves, serves_left, left_out}
 use Rattle.lr_rules.proofs.Good.{root_good, chunk_good, withdrawn_good, deleted_good, expired_good, removed_good}
 use Rattle.lr_rules.proofs.Facts.{certain, root_there, expired_there, kept_known, never_home, settled_roots}

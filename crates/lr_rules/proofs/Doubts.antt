@@ -9,8 +9,8 @@ use Rattle.lr_roots.specs.View.{Held, manifest, Has, Lacks}
 use Rattle.lr_roots.specs.Roots.{IsHomed, IsComplete}
 use Rattle.lr_roots.specs.Sound.{IsSound}
 use Rattle.lr_rules.specs.Known.{Known, Always, Agrees, Serves, IsItemOf, accepted, doubting, removed, dismissed}
-use Rattle.lr_rules.proofs.Keys.{cases_key, at_key, at_other, gone_key, gone_other}
-use Rattle.lr_rules.proofs.Outcomes.{no_some, not_both, view_settles}
+use Rattle.lr_rules.proofs.Keys.{no_some, cases_key, at_key, at_other, gone_key, gone_other, was_there}
+use Rattle.lr_rules.proofs.Outcomes.{not_both, view_settles}
 use Rattle.lr_rules.proofs.Sound.{stays, lacked, lacks_or_has, all_stay, homed_left, left, whole_left}
 
 pub same_some : {X : Type 0} (a b : X) → Some a ≡ Some b → a ≡ b
@@ -37,10 +37,7 @@ module _ (s : Known) (k : KeyKind) (x : Held) where
   ]
 
   pub still_unsure : (q : KeyKind) → IsSome (fin.get (fin.remove s.doubts k) q) → IsSome (fin.get s.doubts q)
-  still_unsure q some = elim (cases_key q k) [
-    | inl e ↦ absurd (no_some _ (ap (fin.get (fin.remove s.doubts k)) e ∙ gone_key s.doubts k) some)
-    | inr ne ↦ subst IsSome (gone_other s.doubts k q ne) some
-  ]
+  still_unsure q = was_there s.doubts k q
 
   -- a doubt is the new one or was there
   new_doubted : (q : KeyKind) (y : Held) → fin.get (fin.insert s.doubts k x) q ≡ Some y → ((q ≡ k) × (x ≡ y)) ⊎ ((q ≢ k) × (fin.get s.doubts q ≡ Some y))

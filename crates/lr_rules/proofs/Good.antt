@@ -13,8 +13,8 @@ use Rattle.lr_roots.specs.Sound.{Suits, IsSound}
 use Rattle.lr_rules.specs.Known.{Serves, IsItemOf}
 use Rattle.lr_rules.specs.State.{Job, Creates, Moves, Session, Desk, Less, IsRootOf}
 use Rattle.lr_rules.specs.Safe.{Works, IsLeased, IsGood}
-use Rattle.lr_rules.proofs.Keys.{cases_key, at_key, at_other, gone_other}
-use Rattle.lr_rules.proofs.Outcomes.{no_some}
+use Rattle.lr_rules.proofs.Keys.{no_some, cases_key, at_key, at_other, gone_other}
+
 use Rattle.lr_rules.proofs.Sound.{split, got, still_serves, homed_stays, root_sound, chunk_sound, withdrawn_sound, deleted_sound, expired_sound, manifest_sound, keeps_homed, removed_sound, homed_left, had, had_so, left_out, left, serves_left}
 
 -- fewer leases and sessions

@@ -1,5 +1,5 @@
 -- What a view, or a table by numbers, has at a key after a change at one.
-use Rattle.std.proofs.Common.{◌≡◌, ◌≢◌, ℕ, List, Some, None, sym, ap, subst, ◌∙◌, inl, inr}
+use Rattle.std.proofs.Common.{◌≡◌, ◌≢◌, ℕ, List, Option, Some, None, IsSome, sym, ap, subst, ◌∙◌, inl, inr}
 use mathlib.Core.Logic.{◌⊎◌}
 use Rattle.std.specs.Ordering.{nat_cmp}
 use Rattle.std.proofs.lemmas.Cmp.{nat_cmp_total}
@@ -9,6 +9,9 @@ use Rattle.lr_origin.specs.Kind.{kind_cmp, kind_total, kind_exact}
 use Rattle.lr_origin.specs.declared.key.KeyKind.{KeyKind}
 use Rattle.lr_origin.specs.declared.key.KeyKind.TheVariants.{Withdrawn}
 use Rattle.lr_rules.proofs.Maps.{cases, put_there, put_beside, gone, gone_beside}
+
+pub no_some : {X : Type 0} (o : Option X) → o ≡ None → IsSome o → ⊥
+no_some {X = X} o e h = let i : IsSome {T = X} None = subst IsSome e h in cc
 
 pub cases_key : (q k : KeyKind) → (q ≡ k) ⊎ (q ≢ k)
 cases_key = cases kind_cmp kind_total kind_exact
@@ -31,6 +34,13 @@ module _ {X : Type 0} where
 
   pub gone_other : (v : FinMap kind_cmp X) (k q : KeyKind) → q ≢ k → fin.get (fin.remove v k) q ≡ fin.get v q
   gone_other = gone_beside kind_cmp kind_total kind_exact
+
+  -- what is left was there
+  pub was_there : (v : FinMap kind_cmp X) (k q : KeyKind) → IsSome (fin.get (fin.remove v k) q) → IsSome (fin.get v q)
+  was_there v k q has = elim (cases_key q k) [
+    | inl e ↦ absurd (no_some _ (ap (fin.get (fin.remove v k)) e ∙ gone_key v k) has)
+    | inr ne ↦ subst IsSome (gone_other v k q ne) has
+  ]
 
   pub put_back : (v : FinMap kind_cmp X) (k : KeyKind) (x : X) → fin.get v k ≡ Some x → v ≡ fin.insert (fin.remove v k) k x
   put_back v k x e = same_map kind_total kind_exact _ _ (λ q. by q (cases_key q k))

@@ -10,3 +10,6 @@ pub mod Manifests
 pub mod Sessions
 pub mod Steps
 pub mod Start
+pub mod Keeps
+pub mod Serving
+pub mod Parts

@@ -16,8 +16,8 @@ use Rattle.lr_rules.specs.Known.{Settles, Always, Serves, accepted, doubting, di
 use Rattle.lr_rules.specs.State.{Job, Creates, Moves, Session, Desk, State, Holds, Less}
 use Rattle.lr_rules.specs.Safe.{Works, IsGood, IsSafe}
 use Rattle.lr_rules.specs.Calls.{knows, MayMake, MayMove, MaySettle, made, making, found, ended}
-use Rattle.lr_rules.proofs.Keys.{cases_key, cases_n, at_key, at_other, gone_key, gone_other, gone_n, gone_other_n}
-use Rattle.lr_rules.proofs.Outcomes.{no_some, not_both, is_some, view_settles, one_settles, put_accepted, put_doubting, again_accepted, settled_absent}
+use Rattle.lr_rules.proofs.Keys.{no_some, cases_key, cases_n, at_key, at_other, gone_key, gone_other, gone_n, gone_other_n}
+use Rattle.lr_rules.proofs.Outcomes.{not_both, is_some, view_settles, one_settles, put_accepted, put_doubting, again_accepted, settled_absent}
 use Rattle.lr_rules.proofs.Sound.{lacks_or_has, still_serves}
 use Rattle.lr_rules.proofs.Good.{less_good, manifest_good}
 use Rattle.lr_rules.proofs.Facts.{whole_there}
@@ -31,12 +31,16 @@ same_root : (b c : ℕ) (i : List ℕ) (q r e d : ℕ) → ◌≡◌ {A = Option
 same_root b c i q r e d f = let g : Creates i q e ≡ Creates i r d = ap (λ x. x.job) (same_some (record { caller = b; job = Creates i q e }) (record { caller = c; job = Creates i r d }) f) in cc
 
 -- one session fewer
-fewer : (sessions : FinMap nat_cmp Session) (n m : ℕ) (j : Session) → fin.get (fin.remove sessions n) m ≡ Some j → (m ≢ n) × (fin.get sessions m ≡ Some j)
+pub fewer : (sessions : FinMap nat_cmp Session) (n m : ℕ) (j : Session) → fin.get (fin.remove sessions n) m ≡ Some j → (m ≢ n) × (fin.get sessions m ≡ Some j)
 fewer sessions n m j e = by (cases_n m n)
   where
     by : (m ≡ n) ⊎ (m ≢ n) → (m ≢ n) × (fin.get sessions m ≡ Some j)
     by (inl f) = absurd (not_both _ j (ap (fin.get (fin.remove sessions n)) f ∙ gone_n sessions n) e)
     by (inr ne) = (ne, sym (gone_other_n sessions n m ne) ∙ e)
+
+pub ended_fewer : (sessions : FinMap nat_cmp Session) (o : Option ℕ) (k : ℕ) (j : Session) → fin.get (ended sessions o) k ≡ Some j → fin.get sessions k ≡ Some j
+ended_fewer sessions None k j e = e
+ended_fewer sessions (Some n) k j e = (fewer sessions n k j e).1
 
 module _ (s : State) (h : IsSafe s) where
   -- a manifest leaves roots as they are
@@ -175,7 +179,7 @@ module _ (s : State) (h : IsSafe s) where
     known : Works s.known.view (Moves image from to m)
     known = moves s.known.view (view_settles s.known h.agrees)
 
-    none_yet : Lacks s.known.view (Manifest to image)
+    pub none_yet : Lacks s.known.view (Manifest to image)
     none_yet = may.home.greatest to known.3 (known.1.0, known.1.1)
 
     all_same : (v : View) → Settles s.known v → (q : ℕ) (y : Held) → fin.get v (Manifest q image) ≡ Some y → y ≡ manifest m
@@ -222,13 +226,9 @@ module _ (s : State) (h : IsSafe s) where
   there_manifest r image m may = manifest_known r image m (ended s.desk.sessions (fin.get s.desk.makers (Manifest r image)))
       (again_accepted s.known (Manifest r image) (manifest m) may.here (IsGood s.desk) h.good)
       (λ q i p e. again_accepted s.known (Manifest r image) (manifest m) may.here (λ v. Serves v q))
-      (λ k j e. sub (fin.get s.desk.makers (Manifest r image)) k j e)
+      (ended_fewer s.desk.sessions (fin.get s.desk.makers (Manifest r image)))
       (λ k b e j. none (fin.get s.desk.makers (Manifest r image)) refl k b e j)
     where
-      sub : (o : Option ℕ) (k : ℕ) (j : Session) → fin.get (ended s.desk.sessions o) k ≡ Some j → fin.get s.desk.sessions k ≡ Some j
-      sub None k j e = e
-      sub (Some n) k j e = (fewer s.desk.sessions n k j e).1
-
       none : (o : Option ℕ) → fin.get s.desk.makers (Manifest r image) ≡ o → (k c d : ℕ) → fin.get (ended s.desk.sessions o) k ≡ Some (record { caller = c; job = Creates image r d }) → ⊥
       none None f k c d e = not_both _ k f (h.made k c image r d e (is_some _ (manifest m) may.here))
       none (Some n) f k c d e =

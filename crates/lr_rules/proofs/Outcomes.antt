@@ -6,14 +6,11 @@ use Rattle.lr_origin.specs.Kind.{kind_total, kind_exact}
 use Rattle.lr_origin.specs.declared.key.KeyKind.{KeyKind}
 use Rattle.lr_roots.specs.View.{View, Held, Lacks}
 use Rattle.lr_rules.specs.Known.{Known, Settles, Always, Agrees, accepted, doubting, removed, dismissed}
-use Rattle.lr_rules.proofs.Keys.{cases_key, at_key, at_other, gone_key, gone_other, put_back}
+use Rattle.lr_rules.proofs.Keys.{no_some, cases_key, at_key, at_other, gone_key, gone_other, put_back}
 
 pub is_none : {X : Type 0} (o : Option X) → (IsSome o → ⊥) → o ≡ None
 is_none None h = refl
 is_none (Some x) h = absurd (h refl)
-
-pub no_some : {X : Type 0} (o : Option X) → o ≡ None → IsSome o → ⊥
-no_some {X = X} o e h = let i : IsSome {T = X} None = subst IsSome e h in cc
 
 pub not_both : {X : Type 0} (o : Option X) (x : X) → o ≡ None → o ≡ Some x → ⊥
 not_both o x e f = cc

@@ -11,8 +11,8 @@ use Rattle.lr_rules.specs.State.{Job, Creates, Moves, Session, Desk, State, Hold
 use Rattle.lr_rules.specs.Names.{IsImage}
 use Rattle.lr_rules.specs.Safe.{Works, IsLeased, IsGood, IsSafe}
 use Rattle.lr_rules.specs.Calls.{MayOpen, MayBegin, MayCopy, opened, began}
-use Rattle.lr_rules.proofs.Keys.{cases_n, at_n, other_n}
-use Rattle.lr_rules.proofs.Outcomes.{no_some, is_none, is_some}
+use Rattle.lr_rules.proofs.Keys.{no_some, cases_n, at_n, other_n}
+use Rattle.lr_rules.proofs.Outcomes.{is_none, is_some}
 use Rattle.lr_rules.proofs.Sound.{lacks_if}
 use Rattle.lr_rules.proofs.Good.{less_good}
 use Rattle.lr_rules.proofs.Facts.{manifest_certain, active_serves, home_serves, homed_always}

@@ -11,8 +11,8 @@ use Rattle.lr_roots.specs.View.{View, Held, salt, manifest, bare, Has, Lacks}
 use Rattle.lr_roots.specs.Roots.{RootsAre, IsLive, IsHome, IsHomed, IsComplete}
 use Rattle.lr_roots.specs.Sound.{Suits, IsSound, root_of}
 use Rattle.lr_rules.specs.Known.{Serves, IsItemOf}
-use Rattle.lr_rules.proofs.Keys.{cases_key, cases_image, at_key, at_other, gone_key, gone_other}
-use Rattle.lr_rules.proofs.Outcomes.{is_none, no_some, not_both, is_some}
+use Rattle.lr_rules.proofs.Keys.{no_some, cases_key, cases_image, at_key, at_other, gone_key, gone_other}
+use Rattle.lr_rules.proofs.Outcomes.{is_none, not_both, is_some}
 
 -- a manifest is under a root that is there
 pub under_root : (v : View) → IsSound v → (k : KeyKind) (r : ℕ) → Has v k → root_of k ≡ Some r → 1 ≤ r → Has v (Root r)

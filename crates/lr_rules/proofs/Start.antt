@@ -9,7 +9,8 @@ use Rattle.lr_roots.specs.View.{View}
 use Rattle.lr_roots.specs.Sound.{IsSound}
 use Rattle.lr_rules.specs.Safe.{IsGood, IsSafe}
 use Rattle.lr_rules.specs.Start.{started, MayStart}
-use Rattle.lr_rules.proofs.Outcomes.{no_some, not_both}
+use Rattle.lr_rules.proofs.Keys.{no_some}
+use Rattle.lr_rules.proofs.Outcomes.{not_both}
 
 pub start_safe : (v : View) (next : ℕ) → MayStart v next → IsSafe (started v next)
 start_safe v next may = record {
