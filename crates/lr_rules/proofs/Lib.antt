@@ -1,1 +1,15 @@
-
+pub mod Maps
+pub mod Keys
+pub mod Outcomes
+pub mod Sound
+pub mod Good
+pub mod Facts
+pub mod Doubts
+pub mod Calls
+pub mod Manifests
+pub mod Sessions
+pub mod Steps
+pub mod Start
+pub mod Keeps
+pub mod Serving
+pub mod Parts

@@ -1,9 +1,10 @@
 -- When each call of the depot is done, read from the view, and what it leaves.
-use Rattle.std.specs.Prelude.{◌≡◌, ◌≤◌, ◌<◌, ◌+◌, ℕ, List, Option, Some, None}
+use Rattle.std.specs.Prelude.{◌≡◌, ◌≤◌, ◌<◌, ◌+◌, ℕ, List, Option, Some, None, IsTrue}
 use Rattle.std.specs.FinMap as map
 use Rattle.std.specs.FinMap.{FinMap}
 use Rattle.std.specs.Ordering.{nat_cmp}
 use Rattle.lr_manifest.specs.Manifest.{Fields, IsManifest}
+use Rattle.lr_text.specs.Name.{is_name}
 use Rattle.lr_origin.specs.Text.{IsKind}
 use Rattle.lr_origin.specs.declared.key.KeyKind.{KeyKind}
 use Rattle.lr_origin.specs.declared.key.KeyKind.TheVariants.{Root, Expired, Deleted, Chunk, Manifest, Withdrawn}
@@ -84,6 +85,7 @@ pub record MayOpen (s : State) (image : List ℕ) (r : ℕ) (m : Fields) : Type 
   pub listed : map.get s.known.view (Manifest r image) ≡ Some (manifest m)
 
 pub record MayBegin (s : State) (image : List ℕ) (r : ℕ) : Type 0 where
+  pub named : IsTrue (is_name image)
   pub roots : RootsAre s.known.view r
   pub some : 1 ≤ r
   pub new : ¬ (IsImage s image)

@@ -1,7 +1,8 @@
 -- What holds of the depot's state after each call, in every way in which its doubts can come out.
-use Rattle.std.specs.Prelude.{◌≡◌, ◌≤◌, ◌<◌, ℕ, List, Some, IsSome}
+use Rattle.std.specs.Prelude.{◌≡◌, ◌≤◌, ◌<◌, ℕ, List, Some, IsSome, IsTrue}
 use Rattle.std.specs.FinMap as map
 use Rattle.lr_manifest.specs.Manifest.{Fields}
+use Rattle.lr_text.specs.Name.{is_name}
 use Rattle.lr_origin.specs.declared.key.KeyKind.TheVariants.{Manifest, Withdrawn}
 use Rattle.lr_roots.specs.View.{View, Held, manifest, Has, Lacks}
 use Rattle.lr_roots.specs.Roots.{IsHomed, IsComplete}
@@ -32,6 +33,10 @@ pub record IsSafe (s : State) : Type 0 where
   pub agrees : Agrees s.known
   -- a manifest in doubt is in a root that serves, and its chunks are known to be there
   pub doubted : (r : ℕ) (image : List ℕ) (m : Fields) → map.get s.known.doubts (Manifest r image) ≡ Some (manifest m) → Lacks s.known.view (Manifest r image) → Always s.known (λ v. Serves v r) × IsComplete s.known.view r m
+  -- an image whose withdrawal is in doubt has a manifest that is known to be there
+  pub withdrawing : (image : List ℕ) → IsSome (map.get s.known.doubts (Withdrawn image)) → (q : ℕ) × Has s.known.view (Manifest q image)
+  -- the image of a creation is well named
+  pub named : (n c : ℕ) (image : List ℕ) (r d : ℕ) → Holds s n c (Creates image r d) → IsTrue (is_name image)
   -- the manifest of a creation isn't known to be there
   pub fresh : (n c : ℕ) (image : List ℕ) (r d : ℕ) → Holds s n c (Creates image r d) → Lacks s.known.view (Manifest r image)
   -- two creations have two images
