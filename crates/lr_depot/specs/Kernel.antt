@@ -48,13 +48,13 @@ pub record IsReady (kernel : Kernel) : Type 0 where
   pub room : HasRoom (state_of kernel makers)
 
 -- The depot answers so, and holds what the machine leaves. What the log is to keep of the reply is told with it.
+abbrev pub MovesBy : State → Kernel → ℕ → DepotCall → DepotNoted → DepotReply → Option DepotTold → Type 0
+MovesBy s new c call noted reply None = DepotStep s c call reply × (is_logged reply ≡ false) × IsOf new s
+MovesBy s new c call noted reply (Some told) =
+    DepotStep s c call reply × (is_logged reply ≡ true) × IsTold reply told × IsOf new (state_after s c noted told)
+
 abbrev pub Moves : State → Kernel → ℕ → DepotCall → DepotNoted → Answer → Type 0
-Moves s new c call noted answer =
-    DepotStep s c call answer.reply × Keeps answer.told
-  where
-    Keeps : Option DepotTold → Type 0
-    Keeps None = (is_logged answer.reply ≡ false) × IsOf new s
-    Keeps (Some told) = (is_logged answer.reply ≡ true) × IsTold answer.reply told × IsOf new (state_after s c noted told)
+Moves s new c call noted answer = MovesBy s new c call noted answer.reply answer.told
 
 -- A call moves what is held, whatever the makers are.
 abbrev pub Serves : Kernel → Kernel → ℕ → DepotCall → DepotNoted → Answer → Type 0

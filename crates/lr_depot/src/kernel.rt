@@ -54,7 +54,7 @@ impl Answer {
 }
 
 // A logged reply.
-fn answer(reply: DepotReply, told: DepotTold) -> Answer
+fn logged(reply: DepotReply, told: DepotTold) -> Answer
     ensures { (result.reply ≡ reply) × (result.told ≡ Some told) }
 {
     Answer {
@@ -79,10 +79,10 @@ impl Kernel {
         ensures served { Serves self.old self.new caller (call.OpenImage image) (noted.OpenImage image) result }
     {
         if self.catalog.withdrawn(&image) {
-            return answer(DepotReply::NoImage, DepotTold::NoImage);
+            return logged(DepotReply::NoImage, DepotTold::NoImage);
         }
         let Some(home) = self.catalog.home(&image) else {
-            return answer(DepotReply::NoImage, DepotTold::NoImage);
+            return logged(DepotReply::NoImage, DepotTold::NoImage);
         };
         let Ok((manifest, told, leased)) = handles(&self.catalog, home, &image) else {
             return Answer::no_memory();
@@ -92,11 +92,11 @@ impl Kernel {
             image,
             manifest: leased,
         };
-        if self.leases.insert(lease, entry).is_err() {
+        let Ok(()) = self.leases.insert(lease, entry) else {
             return Answer::no_memory();
-        }
+        };
         self.next_lease = lease + 1;
-        answer(
+        logged(
             DepotReply::Opened { lease, manifest },
             DepotTold::Opened {
                 lease,
@@ -111,10 +111,10 @@ impl Kernel {
         ensures served { Serves self.old self.new caller (call.Close lease) (noted.Close lease) result }
     {
         if self.leases.get(lease).is_none() {
-            return answer(DepotReply::NoLease, DepotTold::NoLease);
+            return logged(DepotReply::NoLease, DepotTold::NoLease);
         }
         self.leases.remove(lease);
-        answer(DepotReply::Closed, DepotTold::Closed)
+        logged(DepotReply::Closed, DepotTold::Closed)
     }
 
     /// Begins to create an image in the active root.
@@ -130,20 +130,22 @@ impl Kernel {
     {
         let root = self.catalog.roots();
         if root == 0 {
-            return answer(DepotReply::NoRoot, DepotTold::NoRoot);
+            return logged(DepotReply::NoRoot, DepotTold::NoRoot);
         }
         if self.catalog.is_named(&image) || is_begun(&self.sessions, &image) {
-            return answer(DepotReply::Taken, DepotTold::Taken);
+            return logged(DepotReply::Taken, DepotTold::Taken);
         }
         if let Some(key) = first_manifest(&self.doubts, &image) {
-            return answer(DepotReply::Doubt(*key), DepotTold::Doubt(*key));
+            return logged(DepotReply::Doubt(*key), DepotTold::Doubt(*key));
         }
         let Ok(count) = images(alloc, &self.catalog, &self.doubts, &self.sessions) else {
             return Answer::no_memory();
         };
         if count >= IMAGES_MAX as u64 || self.next_number > NUMBER_MAX {
-            return answer(DepotReply::Full, DepotTold::Full);
+            return logged(DepotReply::Full, DepotTold::Full);
         }
+        // Its contract says that the name is one of the grammar.
+        let _name = image.as_bytes();
         self.begin(caller, image, root)
     }
 
@@ -163,12 +165,12 @@ impl Kernel {
             root,
             number,
         };
-        if self.sessions.insert(session, entry).is_err() {
+        let Ok(()) = self.sessions.insert(session, entry) else {
             return Answer::no_memory();
-        }
+        };
         self.next_session = session + 1;
         self.next_number = number + 1;
-        answer(
+        logged(
             DepotReply::Began {
                 session,
                 root,
@@ -190,10 +192,10 @@ impl Kernel {
         ensures served { Serves self.old self.new caller (call.Abandon session) (noted.Abandon session) result }
     {
         if creation_of(&self.sessions, session, caller).is_none() {
-            return answer(DepotReply::NoSession, DepotTold::NoSession);
+            return logged(DepotReply::NoSession, DepotTold::NoSession);
         }
         self.sessions.remove(session);
-        answer(DepotReply::Abandoned, DepotTold::Abandoned)
+        logged(DepotReply::Abandoned, DepotTold::Abandoned)
     }
 
     /// Ends all sessions of the caller.
@@ -208,7 +210,7 @@ impl Kernel {
             };
         }
         end_all(&mut self.sessions, caller);
-        answer(DepotReply::Reaped, DepotTold::Reaped)
+        logged(DepotReply::Reaped, DepotTold::Reaped)
     }
 }
 

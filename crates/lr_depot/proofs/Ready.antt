@@ -1,0 +1,109 @@
+-- What holds of a depot that is ready.
+use Rattle.std.proofs.Common.{◌≡◌, ◌≤◌, ◌<◌, ◌+◌, ℕ, Bool, true, false, List, Option, Some, None, IsSome, IsTrue, refl, sym, ap, subst, ◌∙◌, inl, inr, arith}
+use Rattle.std.specs.FinMap as map
+use Rattle.lr_origin.specs.declared.key.KeyKind.{KeyKind}
+use Rattle.lr_origin.specs.declared.key.KeyKind.TheVariants.{Root, Expired, Deleted, Chunk, Manifest, Withdrawn}
+use Rattle.lr_origin.specs.Text.{IsKind, IsRoot}
+use Rattle.lr_roots.specs.View.{View, Held, salt, manifest, bare, Has, Lacks, Fits}
+use Rattle.lr_manifest.specs.Manifest.{Fields}
+use Rattle.lr_roots.specs.Catalog.{salt_of, manifest_of}
+use Rattle.lr_roots.specs.Roots.{IsTop, RootsAre}
+use Rattle.lr_roots.specs.Sound.{IsSound, Suits}
+use Rattle.lr_rules.specs.State.{State}
+use Rattle.lr_rules.proofs.Calls.{view_good}
+use Rattle.lr_depot.specs.declared.kernel.Kernel.{Kernel}
+use Rattle.lr_depot.specs.declared.kernel.Answer.{Answer}
+use Rattle.lr_depot.specs.declared.call.DepotCall.{DepotCall}
+use Rattle.lr_depot.specs.declared.call.DepotNoted.{DepotNoted}
+use Rattle.lr_depot.specs.declared.call.DepotReply.{DepotReply}
+use Rattle.lr_depot.specs.declared.call.DepotTold.{DepotTold}
+use Rattle.lr_depot.specs.Machine.{DepotStep, state_after, is_logged, IsTold}
+use Rattle.lr_depot.specs.Kernel.{Makers, state_of, IsOf, IsReady, MovesBy, Moves}
+
+-- what suits a key is of its kind
+pub fits_suiting : (k : KeyKind) (x : Held) → Suits k x → Fits k x
+fits_suiting (Root r) (salt s) h = tt
+fits_suiting (Root r) (manifest m) h = absurd h
+fits_suiting (Root r) bare h = absurd h
+fits_suiting (Expired r) (salt s) h = absurd h
+fits_suiting (Expired r) (manifest m) h = absurd h
+fits_suiting (Expired r) bare h = tt
+fits_suiting (Deleted r) (salt s) h = absurd h
+fits_suiting (Deleted r) (manifest m) h = absurd h
+fits_suiting (Deleted r) bare h = tt
+fits_suiting (Chunk r n) (salt s) h = absurd h
+fits_suiting (Chunk r n) (manifest m) h = absurd h
+fits_suiting (Chunk r n) bare h = tt
+fits_suiting (Manifest r n) (salt s) h = absurd h
+fits_suiting (Manifest r n) (manifest m) h = tt
+fits_suiting (Manifest r n) bare h = absurd h
+fits_suiting (Withdrawn n) (salt s) h = absurd h
+fits_suiting (Withdrawn n) (manifest m) h = absurd h
+fits_suiting (Withdrawn n) bare h = tt
+
+-- a root that is there has a salt
+pub has_salt : (r : ℕ) (o : Option Held) → IsSome o → ((x : Held) → o ≡ Some x → Fits (Root r) x) → salt_of o ≡ None → ⊥
+has_salt r None some fits none = absurd cc
+has_salt r (Some (salt s)) some fits none = absurd cc
+has_salt r (Some (manifest m)) some fits none = fits (manifest m) refl
+has_salt r (Some bare) some fits none = fits bare refl
+
+-- an image that a root has is there with a manifest
+pub has_manifest : (r : ℕ) (image : List ℕ) (o : Option Held) → IsSome o → ((x : Held) → o ≡ Some x → Fits (Manifest r image) x) → manifest_of o ≡ None → ⊥
+has_manifest r image None some fits none = absurd cc
+has_manifest r image (Some (salt s)) some fits none = fits (salt s) refl
+has_manifest r image (Some (manifest m)) some fits none = absurd cc
+has_manifest r image (Some bare) some fits none = fits bare refl
+
+-- the object of which a salt is kept
+pub salt_kept : (o : Option Held) (s : List ℕ) → salt_of o ≡ Some s → o ≡ Some (salt s)
+salt_kept None s e = absurd cc
+salt_kept (Some (salt t)) s e = ap (λ o. with_salt o) e
+  where
+    with_salt : Option (List ℕ) → Option Held
+    with_salt None = None
+    with_salt (Some t) = Some (salt t)
+salt_kept (Some (manifest m)) s e = absurd cc
+salt_kept (Some bare) s e = absurd cc
+
+-- the object of which a manifest is kept
+pub manifest_kept : (o : Option Held) (m : Fields) → manifest_of o ≡ Some m → o ≡ Some (manifest m)
+manifest_kept None m e = absurd cc
+manifest_kept (Some (salt t)) m e = absurd cc
+manifest_kept (Some (manifest n)) m e = ap (λ o. with_manifest o) e
+  where
+    with_manifest : Option Fields → Option Held
+    with_manifest None = None
+    with_manifest (Some n) = Some (manifest n)
+manifest_kept (Some bare) m e = absurd cc
+
+-- where the greatest root is n, the roots are 1 to n
+pub top_roots : (v : View) (n : ℕ) → IsSound v → IsTop v n → RootsAre v n
+top_roots v n s top = (
+  λ r first within. s.no_gaps (Root n) n r (top.1 (omega (arith, first, within))) refl first within,
+  λ r has. let k : IsRoot r = s.keys (Root r) has in (k.0, top.0 r has),
+)
+
+module _ (kernel : Kernel) (h : IsReady kernel) where
+  pub ready_sound : IsSound kernel.catalog.view
+  ready_sound = (view_good (state_of kernel h.makers) h.safe).sound
+
+  pub ready_fits : (k : KeyKind) (x : Held) → map.get kernel.catalog.view k ≡ Some x → Fits k x
+  ready_fits k x e = fits_suiting k x (ready_sound.fits k x e)
+
+  pub ready_roots : (n : ℕ) → IsTop kernel.catalog.view n → RootsAre kernel.catalog.view n
+  ready_roots n top = top_roots kernel.catalog.view n ready_sound top
+
+-- a logged answer
+pub moves_logged : (s : State) (new : Kernel) (c : ℕ) (call : DepotCall) (noted : DepotNoted) (answer : Answer) (reply : DepotReply) (told : DepotTold)
+    → (answer.reply ≡ reply) × (answer.told ≡ Some told) → DepotStep s c call reply → is_logged reply ≡ true → IsTold reply told → IsOf new (state_after s c noted told)
+    → Moves s new c call noted answer
+moves_logged s new c call noted answer reply told is step logged tells of =
+    subst (λ r. MovesBy s new c call noted r answer.told) (sym is.0) (subst (MovesBy s new c call noted reply) (sym is.1) (step, logged, tells, of))
+
+-- an answer that the log doesn't keep
+pub moves_unlogged : (s : State) (new : Kernel) (c : ℕ) (call : DepotCall) (noted : DepotNoted) (answer : Answer) (reply : DepotReply)
+    → (answer.reply ≡ reply) × (answer.told ≡ None) → DepotStep s c call reply → is_logged reply ≡ false → IsOf new s
+    → Moves s new c call noted answer
+moves_unlogged s new c call noted answer reply is step logged of =
+    subst (λ r. MovesBy s new c call noted r answer.told) (sym is.0) (subst (MovesBy s new c call noted reply) (sym is.1) (step, logged, of))
