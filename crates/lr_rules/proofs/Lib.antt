@@ -13,3 +13,4 @@ pub mod Start
 pub mod Keeps
 pub mod Serving
 pub mod Parts
+pub mod Room
