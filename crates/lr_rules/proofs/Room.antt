@@ -1,9 +1,9 @@
 -- A depot has few image names: a start tells how many, only a creation's beginning adds one.
-use Rattle.std.proofs.Common.{◌≡◌, ◌≢◌, ◌<◌, ◌≤◌, ◌+◌, ◌^◌, ℕ, arith, List, [], ◌∷◌, length, Option, Some, None, IsSome, refl, sym, ap, subst, ◌∙◌, inl, inr}
+use Rattle.std.proofs.Common.{◌≡◌, ◌≢◌, ◌<◌, ◌≤◌, ◌+◌, ◌^◌, ℕ, arith, List, [], ◌∷◌, length, Some, IsSome, refl, sym, subst, ◌∙◌, inl, inr}
 use mathlib.Core.Logic.{◌⊎◌}
 use Rattle.std.specs.Ordering.{nat_cmp}
 use Rattle.std.specs.FinMap as fin
-use Rattle.std.specs.FinMap.{FinMap, get-empty}
+use Rattle.std.specs.FinMap.{get-empty}
 use Rattle.lr_manifest.specs.Manifest.{Fields}
 use Rattle.lr_origin.specs.Kind.{kind_cmp}
 use Rattle.lr_origin.specs.declared.key.KeyKind.{KeyKind}
@@ -11,17 +11,16 @@ use Rattle.lr_origin.specs.declared.key.KeyKind.TheVariants.{Root, Expired, Dele
 use Rattle.lr_roots.specs.View.{View, Held, salt, manifest, bare, Has}
 use Rattle.lr_roots.specs.Names.{IsOneOf, AreApart, AreFewer, Names, IsNamed}
 use Rattle.lr_rules.specs.Known.{accepted, doubting, removed, dismissed}
-use Rattle.lr_rules.specs.State.{Job, Creates, Moves, Session, State, Holds, target}
-use Rattle.lr_rules.specs.Names.{IsBegun, IsUnsure, IsImage, HasRoom}
+use Rattle.lr_rules.specs.State.{Creates, Moves, Session, State, Holds, target}
+use Rattle.lr_rules.specs.Names.{IsUnsure, IsImage, HasRoom}
 use Rattle.lr_rules.specs.Safe.{Works, IsSafe}
-use Rattle.lr_rules.specs.Calls.{knows, MayWithdraw, MayMove, MayBegin, began, made, making, found, ended}
+use Rattle.lr_rules.specs.Calls.{knows, began, found}
 use Rattle.lr_rules.specs.Start.{started}
 use Rattle.lr_rules.specs.Steps as steps
 use Rattle.lr_rules.specs.Steps.{Steps}
-use Rattle.lr_rules.proofs.Keys.{no_some, cases_key, cases_image, cases_n, at_other, at_n, other_n, was_there}
+use Rattle.lr_rules.proofs.Keys.{no_some, cases_key, cases_image, at_other, was_there}
 use Rattle.lr_rules.proofs.Outcomes.{not_both, is_some}
 use Rattle.lr_rules.proofs.Sound.{split}
-use Rattle.lr_rules.proofs.Doubts.{same_some}
 use Rattle.lr_rules.proofs.Calls.{view_good}
 use Rattle.lr_rules.proofs.Manifests.{fewer, ended_fewer}
 use Rattle.lr_rules.proofs.Keeps.{found_known}
@@ -94,8 +93,8 @@ module _ (s : State) where
       | inr ne ↦ inr (inl (unsure.0, subst IsSome (at_other s.known.doubts k x (Manifest unsure.0 image) ne) unsure.1))
     ]
 
-    pub insert_room : HasRoom s → AreFewer (IsNamed (fin.insert s.known.view k x)) (2 ^ 32)
-    insert_room = fewer_pass (IsNamed (fin.insert s.known.view k x)) (IsImage s) (2 ^ 32) named_put
+  pub insert_room : HasRoom s → (k : KeyKind) (x : Held) → ((image : List ℕ) → Names k image → IsImage s image) → AreFewer (IsNamed (fin.insert s.known.view k x)) (2 ^ 32)
+  insert_room room k x own = fewer_pass (IsNamed (fin.insert s.known.view k x)) (IsImage s) (2 ^ 32) (named_put k x own) room
 
   unsure_less : (k : KeyKind) (image : List ℕ) → (r : ℕ) × IsSome (fin.get (fin.remove s.known.doubts k) (Manifest r image)) → IsImage s image
   unsure_less k image unsure = inr (inl (unsure.0, was_there s.known.doubts k (Manifest unsure.0 image) unsure.1))
@@ -116,14 +115,14 @@ module _ (s : State) where
       → (t ≡ a) ⊎ (t ≡ b) → HasRoom s → HasRoom t
   put_room k x own t a b known sub unknown same (inl e) room =
       subst HasRoom (sym e) (room_within a
-          (λ i named. named_put k x own i (subst (λ k. IsNamed k.view i) known named))
-          (λ i unsure. unsure_less k i (subst (λ k. (r : ℕ) × IsSome (fin.get k.doubts (Manifest r i))) known unsure))
-          sub room)
+      (λ i named. named_put k x own i (subst (λ k. IsNamed k.view i) known named))
+      (λ i unsure. unsure_less k i (subst (λ k. (r : ℕ) × IsSome (fin.get k.doubts (Manifest r i))) known unsure))
+      sub room)
   put_room k x own t a b known sub unknown same (inr e) room =
       subst HasRoom (sym e) (room_within b
-          (λ i named. inl (subst (λ k. IsNamed k.view i) unknown named))
-          (λ i unsure. unsure_put k x own i (subst (λ k. (r : ℕ) × IsSome (fin.get k.doubts (Manifest r i))) unknown unsure))
-          (λ n j f. subst (λ m. fin.get m n ≡ Some j) same f) room)
+      (λ i named. inl (subst (λ k. IsNamed k.view i) unknown named))
+      (λ i unsure. unsure_put k x own i (subst (λ k. (r : ℕ) × IsSome (fin.get k.doubts (Manifest r i))) unknown unsure))
+      (λ n j f. subst (λ m. fin.get m n ≡ Some j) same f) room)
 
   named_again : (r : ℕ) (image i : List ℕ) → Has s.known.view (Manifest r image) → image ≡ i → IsImage s i
   named_again r image i has e = inl (Manifest r image, has, e)

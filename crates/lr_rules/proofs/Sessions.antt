@@ -4,12 +4,12 @@ use mathlib.Core.Logic.{◌⊎◌}
 use Rattle.std.specs.FinMap as fin
 use Rattle.lr_manifest.specs.Manifest.{Fields}
 use Rattle.lr_text.specs.Name.{is_name}
-use Rattle.lr_origin.specs.declared.key.KeyKind.TheVariants.{Manifest, Withdrawn}
-use Rattle.lr_roots.specs.View.{View, Held, manifest, Has, Lacks}
+use Rattle.lr_origin.specs.declared.key.KeyKind.TheVariants.{Manifest}
+use Rattle.lr_roots.specs.View.{View, manifest, Has, Lacks}
 use Rattle.lr_rules.specs.Known.{Settles}
 use Rattle.lr_rules.specs.State.{Job, Creates, Moves, Session, Desk, State, Holds, Less}
 use Rattle.lr_rules.specs.Names.{IsImage}
-use Rattle.lr_rules.specs.Safe.{Works, IsLeased, IsGood, IsSafe}
+use Rattle.lr_rules.specs.Safe.{Works, IsLeased, IsSafe}
 use Rattle.lr_rules.specs.Calls.{MayOpen, MayBegin, MayCopy, opened, began}
 use Rattle.lr_rules.proofs.Keys.{no_some, cases_n, at_n, other_n}
 use Rattle.lr_rules.proofs.Outcomes.{is_none, is_some}
