@@ -14,3 +14,4 @@ pub mod Keeps
 pub mod Serving
 pub mod Parts
 pub mod Room
+pub mod Grammar

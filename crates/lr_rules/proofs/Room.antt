@@ -124,8 +124,13 @@ module _ (s : State) where
       (λ i unsure. unsure_put k x own i (subst (λ k. (r : ℕ) × IsSome (fin.get k.doubts (Manifest r i))) unknown unsure))
       (λ n j f. subst (λ m. fin.get m n ≡ Some j) same f) room)
 
-  named_again : (r : ℕ) (image i : List ℕ) → Has s.known.view (Manifest r image) → image ≡ i → IsImage s i
-  named_again r image i has e = inl (Manifest r image, has, e)
+  -- an image that has a manifest
+  pub listed_names : (r : ℕ) (image : List ℕ) → Has s.known.view (Manifest r image) → (i : List ℕ) → Names (Withdrawn image) i → IsImage s i
+  listed_names r image has i e = inl (Manifest r image, has, e)
+
+  -- the image of a creation
+  pub creation_names : (n c : ℕ) (image : List ℕ) (r d : ℕ) → Holds s n c (Creates image r d) → (i : List ℕ) → Names (Manifest r image) i → IsImage s i
+  creation_names n c image r d holds i e = inr (inr (n, c, r, d, subst (λ i. Holds s n c (Creates i r d)) e holds))
 
   -- a creation begins
   begun_room : (c : ℕ) (image : List ℕ) (r next : ℕ) → AreFewer (IsImage s) 1024 → HasRoom (began s c (Creates image r s.desk.next_number) next)
@@ -158,9 +163,9 @@ module _ (s : State) where
       ]
 
 -- what is in doubt names the depot's images
-doubt_names : (s : State) → IsSafe s → (k : KeyKind) (x : Held) → fin.get s.known.doubts k ≡ Some x → (image : List ℕ) → Names k image → IsImage s image
+pub doubt_names : (s : State) → IsSafe s → (k : KeyKind) (x : Held) → fin.get s.known.doubts k ≡ Some x → (image : List ℕ) → Names k image → IsImage s image
 doubt_names s h (Manifest r own) x here image e = inr (inl (r, subst (λ i. IsSome (fin.get s.known.doubts (Manifest r i))) e (is_some _ x here)))
-doubt_names s h (Withdrawn own) x here image e = let w : (q : ℕ) × Has s.known.view (Manifest q own) = h.withdrawing own (is_some _ x here) in named_again s w.0 own image w.1 e
+doubt_names s h (Withdrawn own) x here image e = let w : (q : ℕ) × Has s.known.view (Manifest q own) = h.withdrawing own (is_some _ x here) in listed_names s w.0 own w.1 image e
 doubt_names s h (Root r) x here image e = absurd e
 doubt_names s h (Expired r) x here image e = absurd e
 doubt_names s h (Deleted r) x here image e = absurd e
@@ -179,15 +184,15 @@ found_sessions s (Withdrawn i) x n j e = e
 
 module _ (s : State) (h : IsSafe s) where
   -- the image of a move
-  move_names : (n c : ℕ) (image : List ℕ) (from to : ℕ) (m : Fields) → Holds s n c (Moves image from to m) → (i : List ℕ) → image ≡ i → IsImage s i
-  move_names n c image from to m holds i e = let w : Works s.known.view (Moves image from to m) = (view_good s h).works n _ holds in named_again s from image i (is_some _ (manifest m) w.2) e
+  pub move_names : (n c : ℕ) (image : List ℕ) (from to : ℕ) (m : Fields) → Holds s n c (Moves image from to m) → (i : List ℕ) → Names (Manifest to image) i → IsImage s i
+  move_names n c image from to m holds i e = let w : Works s.known.view (Moves image from to m) = (view_good s h).works n _ holds in listed_names s from image (is_some _ (manifest m) w.2) i e
 
   pub step_room : (t : State) → Steps s t → HasRoom s → HasRoom t
   step_room t (steps.Rotates n bytes may e) room = put_room s (Root (n + 1)) (salt bytes) (λ i f. absurd f) t _ _ refl (λ k j f. f) refl refl e room
   step_room t (steps.PutsChunk n c j name may e) room = put_room s (Chunk (target j) name) bare (λ i f. absurd f) t _ _ refl (λ k j f. f) refl refl e room
-  step_room t (steps.Makes n c image r d m may e) room = put_room s (Manifest r image) (manifest m) (λ i f. inr (inr (n, c, r, d, subst (λ i. Holds s n c (Creates i r d)) f may.session))) t _ _ refl (λ k j f. (fewer s.desk.sessions n k j f).1) refl refl e room
+  step_room t (steps.Makes n c image r d m may e) room = put_room s (Manifest r image) (manifest m) (creation_names s n c image r d may.session) t _ _ refl (λ k j f. (fewer s.desk.sessions n k j f).1) refl refl e room
   step_room t (steps.FinishesMove n c image from to m may e) room = put_room s (Manifest to image) (manifest m) (move_names n c image from to m may.session) t _ _ refl (λ k j f. (fewer s.desk.sessions n k j f).1) refl refl e room
-  step_room t (steps.Withdraws image may e) room = put_room s (Withdrawn image) bare (λ i f. named_again s may.listed.0 image i may.listed.2 f) t _ _ refl (λ k j f. f) refl refl e room
+  step_room t (steps.Withdraws image may e) room = put_room s (Withdrawn image) bare (listed_names s may.listed.0 image may.listed.2) t _ _ refl (λ k j f. f) refl refl e room
   step_room t (steps.Expires r may e) room = put_room s (Expired r) bare (λ i f. absurd f) t _ _ refl (λ k j f. f) refl refl e room
   step_room t (steps.Deletes r may e) room = put_room s (Deleted r) bare (λ i f. absurd f) t _ _ refl (λ k j f. f) refl refl e room
   step_room t (steps.Sweeps r k x may (inl e)) room = subst HasRoom (sym e) (room_within s (knows s (removed s.known k)) (λ i named. inl (named.0, was_there s.known.view k named.0 named.1, named.2)) (unsure_less s k) (λ n j f. f) room)
