@@ -1,8 +1,6 @@
 -- Each call that leaves leases and sessions keeps the depot safe, whichever way its put or deletion came out.
-use Rattle.std.proofs.Common.{◌≡◌, ◌≢◌, ◌+◌, ℕ, List, Option, Some, None, IsSome, refl, sym, ap, subst, ◌∙◌, inl, inr, arith}
-use mathlib.Core.Logic.{◌⊎◌}
+use Rattle.std.proofs.Common.{◌≡◌, ◌≢◌, ◌+◌, ℕ, List, Some, None, IsSome, sym, ap, subst, ◌∙◌, inl, inr, arith}
 use Rattle.std.specs.FinMap as fin
-use Rattle.lr_manifest.specs.Manifest.{Fields}
 use Rattle.lr_origin.specs.Text.{IsKind}
 use Rattle.lr_origin.specs.declared.key.KeyKind.{KeyKind}
 use Rattle.lr_origin.specs.declared.key.KeyKind.TheVariants.{Root, Expired, Deleted, Chunk, Manifest, Withdrawn}
@@ -11,9 +9,9 @@ use Rattle.lr_roots.specs.Roots.{IsHome, IsHomed}
 use Rattle.lr_roots.specs.Sound.{IsSound}
 use Rattle.lr_rules.specs.Known.{Known, Settles, Always, Agrees, Serves, IsItemOf, accepted, doubting, removed}
 use Rattle.lr_rules.specs.State.{Job, Creates, Moves, State, Holds, target}
-use Rattle.lr_rules.specs.Safe.{Works, IsLeased, IsGood, IsSafe}
+use Rattle.lr_rules.specs.Safe.{Works, IsGood, IsSafe}
 use Rattle.lr_rules.specs.Calls.{knows, IsNew, MayRotate, MayPut, MayWithdraw, MayExpire, MayDelete, MaySweep}
-use Rattle.lr_rules.proofs.Keys.{no_some, cases_key, at_other, gone_key, gone_other}
+use Rattle.lr_rules.proofs.Keys.{no_some, cases_key, at_other}
 use Rattle.lr_rules.proofs.Outcomes.{not_both, is_some, view_settles, put_accepted, put_doubting, again_accepted, deleted_away, deleted_doubting}
 use Rattle.lr_rules.proofs.Sound.{lacks_or_has, still_serves, serves_left, left_out}
 use Rattle.lr_rules.proofs.Good.{root_good, chunk_good, withdrawn_good, deleted_good, expired_good, removed_good}
@@ -71,8 +69,8 @@ module _ (s : State) (h : IsSafe s) where
           (put_doubting s.known k x new.absent new.sure (IsGood s.desk) (IsGood s.desk) h.good (λ v t g. g) step)
           (doubting_agrees s.known k x h.agrees (inl new.absent))
           (doubting_whole s.known k x h.doubted
-              (λ r i m e all. put_doubting s.known k x new.absent new.sure (λ v. Serves v r) (λ v. Serves v r) all (λ v t g. g) (serve r i (is_some _ _ e)))
-              (λ r i m e f away. absurd (none r i e)))
+          (λ r i m e all. put_doubting s.known k x new.absent new.sure (λ v. Serves v r) (λ v. Serves v r) all (λ v t g. g) (serve r i (is_some _ _ e)))
+          (λ r i m e f away. absurd (none r i e)))
           (doubting_listed s.known k x h.withdrawing mark)
           (λ n c i r d j. (h.fresh n c i r d j, λ some. subst IsSome (at_other s.known.doubts k x (Manifest r i) (none r i)) some))
 
@@ -169,10 +167,13 @@ module _ (s : State) (h : IsSafe s) where
         (deleted_doubting s.known k x may.here h.agrees (IsGood s.desk) h.good sweep_step)
         (doubting_agrees s.known k x h.agrees (inr (may.here, (r, may.item, may.dead))))
         (doubting_whole s.known k x h.doubted
-            (λ q i m e all. deleted_doubting s.known k x may.here h.agrees (λ v. Serves v q) all (serve_swept q))
-            (λ q i m e f away. absurd (not_both _ x (ap (fin.get s.known.view) (sym e) ∙ away) may.here)))
+        (λ q i m e all. deleted_doubting s.known k x may.here h.agrees (λ v. Serves v q) all (serve_swept q))
+        (λ q i m e f away. absurd (not_both _ x (ap (fin.get s.known.view) (sym e) ∙ away) may.here)))
         (doubting_listed s.known k x h.withdrawing (λ i e. absurd (subst (IsItemOf r) (sym e) may.item)))
-        (λ n c i q d j. (h.fresh n c i q d j, λ some. elim (cases_key (Manifest q i) k) [
-          | inl e ↦ absurd (not_both _ x (h.fresh n c i q d j) (ap (fin.get s.known.view) e ∙ may.here))
-          | inr ne ↦ subst IsSome (at_other s.known.doubts k x (Manifest q i) ne) some
-        ]))
+        (λ n c i q d j. (
+          h.fresh n c i q d j,
+          λ some. elim (cases_key (Manifest q i) k) [
+            | inl e ↦ absurd (not_both _ x (h.fresh n c i q d j) (ap (fin.get s.known.view) e ∙ may.here))
+            | inr ne ↦ subst IsSome (at_other s.known.doubts k x (Manifest q i) ne) some
+          ],
+        ))

@@ -9,9 +9,9 @@ use Rattle.lr_roots.specs.View.{Held, manifest, Has, Lacks}
 use Rattle.lr_roots.specs.Roots.{IsHomed, IsComplete}
 use Rattle.lr_roots.specs.Sound.{IsSound}
 use Rattle.lr_rules.specs.Known.{Known, Always, Agrees, Serves, IsItemOf, accepted, doubting, removed, dismissed}
-use Rattle.lr_rules.proofs.Keys.{no_some, cases_key, at_key, at_other, gone_key, gone_other, was_there}
+use Rattle.lr_rules.proofs.Keys.{cases_key, at_key, at_other, gone_key, gone_other, was_there}
 use Rattle.lr_rules.proofs.Outcomes.{not_both, view_settles}
-use Rattle.lr_rules.proofs.Sound.{stays, lacked, lacks_or_has, all_stay, homed_left, left, whole_left}
+use Rattle.lr_rules.proofs.Sound.{stays, lacked, all_stay, homed_left, whole_left}
 
 pub same_some : {X : Type 0} (a b : X) → Some a ≡ Some b → a ≡ b
 same_some a b e = cc

@@ -3,7 +3,6 @@ use Rattle.std.proofs.Common.{◌≡◌, ◌≢◌, ◌≤◌, ◌<◌, ◌+◌,
 use mathlib.Core.Logic.{◌⊎◌}
 use Rattle.std.specs.FinMap as fin
 use Rattle.lr_manifest.specs.Manifest.{Fields}
-use Rattle.lr_manifest.specs.declared.name.Name.{Name}
 use Rattle.lr_origin.specs.declared.key.KeyKind.{KeyKind}
 use Rattle.lr_origin.specs.declared.key.KeyKind.TheVariants.{Root, Expired, Deleted, Chunk, Manifest, Withdrawn}
 use Rattle.lr_roots.specs.View.{View, Held, Has, Lacks}
@@ -11,7 +10,7 @@ use Rattle.lr_roots.specs.Roots.{RootsAre, IsHome, IsHomed, IsComplete}
 use Rattle.lr_roots.specs.Sound.{IsSound}
 use Rattle.lr_rules.specs.Known.{Known, Settles, Always, Agrees, Serves, IsItemOf}
 use Rattle.lr_rules.proofs.Keys.{no_some, at_other, gone_key, gone_other}
-use Rattle.lr_rules.proofs.Outcomes.{is_none, view_settles, one_settles, settles_but}
+use Rattle.lr_rules.proofs.Outcomes.{view_settles, one_settles, settles_but}
 use Rattle.lr_rules.proofs.Sound.{there, split, lacks_or_has, home_stays}
 
 pub home_unique : (v : View) (i : List ℕ) (p q : ℕ) → IsHome v i p → IsHome v i q → p ≡ q

@@ -2,7 +2,7 @@
 use Rattle.std.proofs.Common.{◌≡◌, ◌≢◌, ◌<◌, ◌+◌, ℕ, List, Option, Some, None, IsSome, refl, sym, ap, subst, ◌∙◌, inl, inr}
 use mathlib.Core.Logic.{◌⊎◌}
 use Rattle.std.specs.FinMap as fin
-use Rattle.lr_manifest.specs.Manifest.{Fields, IsManifest}
+use Rattle.lr_manifest.specs.Manifest.{Fields}
 use Rattle.lr_origin.specs.Text.{IsKind}
 use Rattle.lr_origin.specs.declared.key.KeyKind.{KeyKind}
 use Rattle.lr_origin.specs.declared.key.KeyKind.TheVariants.{Root, Expired, Deleted, Chunk, Manifest, Withdrawn}
@@ -14,8 +14,7 @@ use Rattle.lr_rules.specs.Known.{Serves, IsItemOf}
 use Rattle.lr_rules.specs.State.{Job, Creates, Moves, Session, Desk, Less, IsRootOf}
 use Rattle.lr_rules.specs.Safe.{Works, IsLeased, IsGood}
 use Rattle.lr_rules.proofs.Keys.{no_some, cases_key, at_key, at_other, gone_other}
-
-use Rattle.lr_rules.proofs.Sound.{split, got, still_serves, homed_stays, root_sound, chunk_sound, withdrawn_sound, deleted_sound, expired_sound, manifest_sound, keeps_homed, removed_sound, homed_left, had, had_so, left_out, left, serves_left}
+use Rattle.lr_rules.proofs.Sound.{split, got, still_serves, homed_stays, root_sound, chunk_sound, withdrawn_sound, deleted_sound, expired_sound, manifest_sound, keeps_homed, removed_sound, homed_left, had, had_so, serves_left}
 
 -- fewer leases and sessions
 pub less_good : (d e : Desk) (v : View) → Less d e → IsGood d v → IsGood e v

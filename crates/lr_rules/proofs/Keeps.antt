@@ -97,17 +97,20 @@ module _ (s : State) (h : IsSafe s) (image : List ℕ) (m : Fields) (keeps : Kee
   added : (k : KeyKind) (x : Held) → ((q : ℕ) → Manifest q image ≡ k → Lacks s.known.view k) → (t a b : State) → a.known.view ≡ fin.insert s.known.view k x → b.known.view ≡ s.known.view → (t ≡ a) ⊎ (t ≡ b) → Keeps t image m
   added k x new t a b e f = either t a b (put_keeps k x new a e) (same_keeps b f)
 
-  pub step_keeps : (t : State) → Steps s t → Keeps t image m
-  step_keeps t (steps.Rotates n bytes may e) = added (Root (n + 1)) (salt bytes) (λ q f. absurd cc) t _ _ refl refl e
-  step_keeps t (steps.PutsChunk n c j name may e) = added (Chunk (target j) name) bare (λ q f. absurd cc) t _ _ refl refl e
-  step_keeps t (steps.Makes n c i r d p may e) = added (Manifest r i) (manifest p) (λ q f. h.fresh n c i r d may.session) t _ _ refl refl e
-  step_keeps t (steps.FinishesMove n c i from to p may e) = added (Manifest to i) (manifest p) (λ q f. none_yet s h n c i from to p may) t _ _ refl refl e
-  step_keeps t (steps.Withdraws i may e) = added (Withdrawn i) bare (λ q f. absurd cc) t _ _ refl refl e
-  step_keeps t (steps.Expires r may e) = added (Expired r) bare (λ q f. absurd cc) t _ _ refl refl e
-  step_keeps t (steps.Deletes r may e) = added (Deleted r) bare (λ q f. absurd cc) t _ _ refl refl e
-  step_keeps t (steps.Sweeps r k x may e) = either t (knows s (removed s.known k)) (knows s (doubting s.known k x)) (swept_keeps r k x may) (same_keeps (knows s (doubting s.known k x)) refl) e
-  step_keeps t (steps.Settles k x may e) = added k x (λ q f. may.absent) t (found s k x) (knows s (dismissed s.known k)) (ap (λ (a : Known). a.view) (found_known s k x)) refl e
-  step_keeps t (steps.Opens i r p may e) = same_keeps t (ap (λ (a : State). a.known.view) e)
-  step_keeps t (steps.BeginsCreate c i r may e) = same_keeps t (ap (λ (a : State). a.known.view) e)
-  step_keeps t (steps.BeginsMove c i from to p may e) = same_keeps t (ap (λ (a : State). a.known.view) e)
-  step_keeps t (steps.Ends d less e) = same_keeps t (ap (λ (a : State). a.known.view) e)
+  stepped : (t : State) → Steps s t → Keeps t image m
+  stepped t (steps.Rotates n bytes may e) = added (Root (n + 1)) (salt bytes) (λ q f. absurd cc) t _ _ refl refl e
+  stepped t (steps.PutsChunk n c j name may e) = added (Chunk (target j) name) bare (λ q f. absurd cc) t _ _ refl refl e
+  stepped t (steps.Makes n c i r d p may e) = added (Manifest r i) (manifest p) (λ q f. h.fresh n c i r d may.session) t _ _ refl refl e
+  stepped t (steps.FinishesMove n c i from to p may e) = added (Manifest to i) (manifest p) (λ q f. none_yet s h n c i from to p may) t _ _ refl refl e
+  stepped t (steps.Withdraws i may e) = added (Withdrawn i) bare (λ q f. absurd cc) t _ _ refl refl e
+  stepped t (steps.Expires r may e) = added (Expired r) bare (λ q f. absurd cc) t _ _ refl refl e
+  stepped t (steps.Deletes r may e) = added (Deleted r) bare (λ q f. absurd cc) t _ _ refl refl e
+  stepped t (steps.Sweeps r k x may e) = either t (knows s (removed s.known k)) (knows s (doubting s.known k x)) (swept_keeps r k x may) (same_keeps (knows s (doubting s.known k x)) refl) e
+  stepped t (steps.Settles k x may e) = added k x (λ q f. may.absent) t (found s k x) (knows s (dismissed s.known k)) (ap (λ (a : Known). a.view) (found_known s k x)) refl e
+  stepped t (steps.Opens i r p may e) = same_keeps t (ap (λ (a : State). a.known.view) e)
+  stepped t (steps.BeginsCreate c i r may e) = same_keeps t (ap (λ (a : State). a.known.view) e)
+  stepped t (steps.BeginsMove c i from to p may e) = same_keeps t (ap (λ (a : State). a.known.view) e)
+  stepped t (steps.Ends d less e) = same_keeps t (ap (λ (a : State). a.known.view) e)
+
+pub step_keeps : (s : State) → IsSafe s → (t : State) → Steps s t → (image : List ℕ) (m : Fields) → Keeps s image m → Keeps t image m
+step_keeps s h t step image m keeps = stepped s h image m keeps t step

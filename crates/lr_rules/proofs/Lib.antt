@@ -13,3 +13,5 @@ pub mod Start
 pub mod Keeps
 pub mod Serving
 pub mod Parts
+pub mod Room
+pub mod Grammar

@@ -1,5 +1,5 @@
 -- The calls that put manifests keep the depot safe, whichever way the put came out, and so do settled doubts.
-use Rattle.std.proofs.Common.{◌≡◌, ◌≢◌, ◌≤◌, ◌<◌, ◌+◌, ℕ, List, Option, Some, None, IsSome, refl, sym, ap, subst, ◌∙◌, inl, inr, arith}
+use Rattle.std.proofs.Common.{◌≡◌, ◌≢◌, ◌≤◌, ◌<◌, ℕ, List, Option, Some, None, IsSome, refl, sym, ap, subst, ◌∙◌, inl, inr, arith}
 use mathlib.Core.Logic.{◌⊎◌}
 use Rattle.std.specs.FinMap as fin
 use Rattle.std.specs.FinMap.{FinMap}
@@ -13,15 +13,15 @@ use Rattle.lr_roots.specs.Roots.{IsComplete}
 use Rattle.lr_roots.specs.Names.{number_of}
 use Rattle.lr_roots.specs.Sound.{maker_of, IsNumbered, Suits}
 use Rattle.lr_rules.specs.Known.{Settles, Always, Serves, accepted, doubting, dismissed}
-use Rattle.lr_rules.specs.State.{Job, Creates, Moves, Session, Desk, State, Holds, Less}
+use Rattle.lr_rules.specs.State.{Creates, Moves, Session, Desk, State, Holds, Less}
 use Rattle.lr_rules.specs.Safe.{Works, IsGood, IsSafe}
 use Rattle.lr_rules.specs.Calls.{knows, MayMake, MayMove, MaySettle, made, making, found, ended}
-use Rattle.lr_rules.proofs.Keys.{no_some, cases_key, cases_n, at_key, at_other, gone_key, gone_other, gone_n, gone_other_n}
+use Rattle.lr_rules.proofs.Keys.{no_some, cases_key, cases_n, at_key, at_other, gone_n, gone_other_n}
 use Rattle.lr_rules.proofs.Outcomes.{not_both, is_some, view_settles, one_settles, put_accepted, put_doubting, again_accepted, settled_absent}
-use Rattle.lr_rules.proofs.Sound.{lacks_or_has, still_serves}
+use Rattle.lr_rules.proofs.Sound.{still_serves}
 use Rattle.lr_rules.proofs.Good.{less_good, manifest_good}
 use Rattle.lr_rules.proofs.Facts.{whole_there}
-use Rattle.lr_rules.proofs.Doubts.{same_some, AreWhole, KeepsServing, still_unsure, accepted_agrees, doubting_agrees, dismissed_agrees, accepted_whole, doubting_whole, dismissed_whole, accepted_listed, doubting_listed, dismissed_listed}
+use Rattle.lr_rules.proofs.Doubts.{same_some, KeepsServing, still_unsure, accepted_agrees, doubting_agrees, dismissed_agrees, accepted_whole, doubting_whole, dismissed_whole, accepted_listed, doubting_listed, dismissed_listed}
 use Rattle.lr_rules.proofs.Calls.{all_sound, view_good, knows_safe, again_safe}
 
 pub same_fields : (m p : Fields) → manifest m ≡ manifest p → m ≡ p

@@ -6,7 +6,7 @@ use Rattle.lr_origin.specs.Kind.{kind_total, kind_exact}
 use Rattle.lr_origin.specs.declared.key.KeyKind.{KeyKind}
 use Rattle.lr_roots.specs.View.{View, Held, Lacks}
 use Rattle.lr_rules.specs.Known.{Known, Settles, Always, Agrees, accepted, doubting, removed, dismissed}
-use Rattle.lr_rules.proofs.Keys.{no_some, cases_key, at_key, at_other, gone_key, gone_other, put_back}
+use Rattle.lr_rules.proofs.Keys.{cases_key, at_key, at_other, gone_key, gone_other, put_back}
 
 pub is_none : {X : Type 0} (o : Option X) → (IsSome o → ⊥) → o ≡ None
 is_none None h = refl

@@ -4,17 +4,16 @@ use mathlib.Core.Logic.{◌⊎◌}
 use Rattle.std.specs.FinMap as fin
 use Rattle.lr_manifest.specs.Manifest.{Fields}
 use Rattle.lr_origin.specs.declared.key.KeyKind.{KeyKind}
-use Rattle.lr_origin.specs.declared.key.KeyKind.TheVariants.{Expired, Deleted, Manifest, Withdrawn}
+use Rattle.lr_origin.specs.declared.key.KeyKind.TheVariants.{Expired, Deleted, Manifest}
 use Rattle.lr_roots.specs.View.{View, Held, salt, manifest, bare, Has, Lacks}
 use Rattle.lr_roots.specs.Roots.{IsHome, IsHomed}
 use Rattle.lr_roots.specs.Names.{number_of}
-use Rattle.lr_roots.specs.Sound.{IsSound}
 use Rattle.lr_rules.specs.Known.{Settles, Serves, IsItemOf}
-use Rattle.lr_rules.specs.State.{Job, Creates, Moves, Session, State, IsRootOf}
+use Rattle.lr_rules.specs.State.{Job, Creates, Moves, State, IsRootOf}
 use Rattle.lr_rules.specs.Safe.{Works, IsGood, IsSafe}
 use Rattle.lr_rules.specs.Parts.{IsOwed, IsFree, HasParts}
 use Rattle.lr_rules.proofs.Keys.{no_some, cases_key, at_key, at_other}
-use Rattle.lr_rules.proofs.Outcomes.{not_both, is_some, view_settles, with_settles, one_settles}
+use Rattle.lr_rules.proofs.Outcomes.{not_both, view_settles, with_settles, one_settles}
 use Rattle.lr_rules.proofs.Sound.{there, home_stays}
 use Rattle.lr_rules.proofs.Facts.{home_unique, home_serves}
 use Rattle.lr_rules.proofs.Doubts.{same_some}

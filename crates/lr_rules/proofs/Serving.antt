@@ -1,6 +1,5 @@
 -- What the calls of leases and sessions find: homes, manifests and chunks, in the view and in each way out.
-use Rattle.std.proofs.Common.{◌≡◌, ℕ, List, Option, Some, None, IsSome, refl, sym, ap, subst, ◌∙◌, inl, inr}
-use mathlib.Core.Logic.{◌⊎◌}
+use Rattle.std.proofs.Common.{◌≡◌, ℕ, List, Option, Some, None, IsSome, refl, sym, ap, subst, ◌∙◌}
 use Rattle.std.specs.FinMap as fin
 use Rattle.lr_manifest.specs.Manifest.{Fields}
 use Rattle.lr_origin.specs.declared.key.KeyKind.TheVariants.{Deleted, Chunk, Manifest, Withdrawn}
@@ -10,7 +9,6 @@ use Rattle.lr_roots.specs.Sound.{IsSound}
 use Rattle.lr_rules.specs.Known.{Settles, Serves}
 use Rattle.lr_rules.specs.State.{Job, Creates, Moves, State, Holds, target}
 use Rattle.lr_rules.specs.Safe.{Works, IsLeased, IsSafe}
-use Rattle.lr_rules.proofs.Outcomes.{view_settles}
 use Rattle.lr_rules.proofs.Facts.{whole_there, chunk_certain}
 use Rattle.lr_rules.proofs.Calls.{view_good}
 

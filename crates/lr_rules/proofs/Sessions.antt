@@ -4,12 +4,12 @@ use mathlib.Core.Logic.{◌⊎◌}
 use Rattle.std.specs.FinMap as fin
 use Rattle.lr_manifest.specs.Manifest.{Fields}
 use Rattle.lr_text.specs.Name.{is_name}
-use Rattle.lr_origin.specs.declared.key.KeyKind.TheVariants.{Manifest, Withdrawn}
-use Rattle.lr_roots.specs.View.{View, Held, manifest, Has, Lacks}
+use Rattle.lr_origin.specs.declared.key.KeyKind.TheVariants.{Manifest}
+use Rattle.lr_roots.specs.View.{View, manifest, Has, Lacks}
 use Rattle.lr_rules.specs.Known.{Settles}
 use Rattle.lr_rules.specs.State.{Job, Creates, Moves, Session, Desk, State, Holds, Less}
 use Rattle.lr_rules.specs.Names.{IsImage}
-use Rattle.lr_rules.specs.Safe.{Works, IsLeased, IsGood, IsSafe}
+use Rattle.lr_rules.specs.Safe.{Works, IsLeased, IsSafe}
 use Rattle.lr_rules.specs.Calls.{MayOpen, MayBegin, MayCopy, opened, began}
 use Rattle.lr_rules.proofs.Keys.{no_some, cases_n, at_n, other_n}
 use Rattle.lr_rules.proofs.Outcomes.{is_none, is_some}
@@ -18,6 +18,21 @@ use Rattle.lr_rules.proofs.Good.{less_good}
 use Rattle.lr_rules.proofs.Facts.{manifest_certain, active_serves, home_serves, homed_always}
 use Rattle.lr_rules.proofs.Doubts.{same_some}
 use Rattle.lr_rules.proofs.Calls.{all_sound}
+
+-- the sessions with one that begins
+module _ (s : State) (c : ℕ) (j : Job) where
+  abbrev pub new : Session
+  new = record { caller = c; job = j }
+
+  pub which : (n : ℕ) (i : Session) → fin.get (fin.insert s.desk.sessions s.desk.next_session new) n ≡ Some i → ((n ≡ s.desk.next_session) × (new ≡ i)) ⊎ (fin.get s.desk.sessions n ≡ Some i)
+  which n i e = by (cases_n n s.desk.next_session)
+    where
+      by : (n ≡ s.desk.next_session) ⊎ (n ≢ s.desk.next_session) → ((n ≡ s.desk.next_session) × (new ≡ i)) ⊎ (fin.get s.desk.sessions n ≡ Some i)
+      by (inl f) = inl (f, same_some new i (sym (at_n s.desk.sessions s.desk.next_session new) ∙ ap (fin.get (fin.insert s.desk.sessions s.desk.next_session new)) (sym f) ∙ e))
+      by (inr ne) = inr (sym (other_n s.desk.sessions s.desk.next_session new n ne) ∙ e)
+
+  pub job_is : (b : ℕ) (i : Job) → ◌≡◌ {A = Session} new (record { caller = b; job = i }) → j ≡ i
+  job_is b i e = ap (λ x. x.job) e
 
 module _ (s : State) (h : IsSafe s) where
   -- leases or sessions end
@@ -93,22 +108,9 @@ module _ (s : State) (h : IsSafe s) where
   module _ (c : ℕ) (j : Job) (next : ℕ) (more : s.desk.next_number ≤ next) (few : next ≤ 9223372036854775808)
       (works : (v : View) → Settles s.known v → Works v j)
       (creates : (image : List ℕ) (r d : ℕ) → j ≡ Creates image r d → ¬ (IsImage s image) × IsTrue (is_name image) × ((1 ≤ d) × (d < next))) where
-    abbrev new : Session
-    new = record { caller = c; job = j }
-
-    which : (n : ℕ) (i : Session) → fin.get (fin.insert s.desk.sessions s.desk.next_session new) n ≡ Some i → ((n ≡ s.desk.next_session) × (new ≡ i)) ⊎ (fin.get s.desk.sessions n ≡ Some i)
-    which n i e = by (cases_n n s.desk.next_session)
-      where
-        by : (n ≡ s.desk.next_session) ⊎ (n ≢ s.desk.next_session) → ((n ≡ s.desk.next_session) × (new ≡ i)) ⊎ (fin.get s.desk.sessions n ≡ Some i)
-        by (inl f) = inl (f, same_some new i (sym (at_n s.desk.sessions s.desk.next_session new) ∙ ap (fin.get (fin.insert s.desk.sessions s.desk.next_session new)) (sym f) ∙ e))
-        by (inr ne) = inr (sym (other_n s.desk.sessions s.desk.next_session new n ne) ∙ e)
-
-    job_is : (b : ℕ) (i : Job) → ◌≡◌ {A = Session} new (record { caller = b; job = i }) → j ≡ i
-    job_is b i e = ap (λ x. x.job) e
-
-    below_next : (n : ℕ) (o : Option Session) → fin.get (fin.insert s.desk.sessions s.desk.next_session new) n ≡ o → IsSome o → (1 ≤ n) × (n < s.desk.next_session + 1)
+    below_next : (n : ℕ) (o : Option Session) → fin.get (fin.insert s.desk.sessions s.desk.next_session (new s c j)) n ≡ o → IsSome o → (1 ≤ n) × (n < s.desk.next_session + 1)
     below_next n None f has = absurd cc
-    below_next n (Some i) f has = elim (which n i f) [
+    below_next n (Some i) f has = elim (which s c j n i f) [
       | inl p ↦ (omega (arith, p.0, h.first_session), omega (arith, p.0))
       | inr o ↦ let b : (1 ≤ n) × (n < s.desk.next_session) = h.session_numbers n (is_some _ i o) in (b.0, omega (arith, b.1))
     ]
@@ -118,27 +120,27 @@ module _ (s : State) (h : IsSafe s) where
       good = λ v t. record {
         sound = (h.good v t).sound;
         leased = (h.good v t).leased;
-        works = λ n i e. elim (which n i e) [ inl p ↦ subst (λ i. Works v i.job) p.1 (works v t) | inr o ↦ (h.good v t).works n i o ];
+        works = λ n i e. elim (which s c j n i e) [ inl p ↦ subst (λ i. Works v i.job) p.1 (works v t) | inr o ↦ (h.good v t).works n i o ];
         numbered = λ r i m e. omega (arith, (h.good v t).numbered r i m e, more);
       };
       agrees = h.agrees;
       doubted = h.doubted;
       withdrawing = h.withdrawing;
-      named = λ n b i r d e. elim (which n _ e) [ inl p ↦ (creates i r d (job_is b (Creates i r d) p.1)).1 | inr o ↦ h.named n b i r d o ];
-      fresh = λ n b i r d e. elim (which n _ e) [
-        | inl p ↦ lacks_if s.known.view (Manifest r i) (λ has. (creates i r d (job_is b (Creates i r d) p.1)).0 (inl (Manifest r i, has, refl)))
+      named = λ n b i r d e. elim (which s c j n _ e) [ inl p ↦ (creates i r d (job_is s c j b (Creates i r d) p.1)).1 | inr o ↦ h.named n b i r d o ];
+      fresh = λ n b i r d e. elim (which s c j n _ e) [
+        | inl p ↦ lacks_if s.known.view (Manifest r i) (λ has. (creates i r d (job_is s c j b (Creates i r d) p.1)).0 (inl (Manifest r i, has, refl)))
         | inr o ↦ h.fresh n b i r d o
       ];
-      alone = λ n k b a i q r d e x y. alone n k b a i q r d e (which n _ x) (which k _ y);
+      alone = λ n k b a i q r d e x y. alone n k b a i q r d e (which s c j n _ x) (which s c j k _ y);
       lease_numbers = h.lease_numbers;
-      session_numbers = λ n some. below_next n (fin.get (fin.insert s.desk.sessions s.desk.next_session new) n) refl some;
+      session_numbers = λ n some. below_next n (fin.get (fin.insert s.desk.sessions s.desk.next_session (new s c j)) n) refl some;
       few = few;
-      drawn = λ n b i r d e. elim (which n _ e) [
-        | inl p ↦ (creates i r d (job_is b (Creates i r d) p.1)).2
+      drawn = λ n b i r d e. elim (which s c j n _ e) [
+        | inl p ↦ (creates i r d (job_is s c j b (Creates i r d) p.1)).2
         | inr o ↦ let f : (1 ≤ d) × (d < s.desk.next_number) = h.drawn n b i r d o in (f.0, omega (arith, f.1, more))
       ];
-      made = λ n b i r d e some. elim (which n _ e) [
-        | inl p ↦ absurd ((creates i r d (job_is b (Creates i r d) p.1)).0 (inr (inl (r, some))))
+      made = λ n b i r d e some. elim (which s c j n _ e) [
+        | inl p ↦ absurd ((creates i r d (job_is s c j b (Creates i r d) p.1)).0 (inr (inl (r, some))))
         | inr o ↦ h.made n b i r d o some
       ];
       first_lease = h.first_lease;
@@ -146,10 +148,10 @@ module _ (s : State) (h : IsSafe s) where
       first_number = omega (arith, h.first_number, more);
     }
       where
-        alone : (n k b a : ℕ) (i : List ℕ) (q r d e : ℕ) → ((n ≡ s.desk.next_session) × (◌≡◌ {A = Session} new (record { caller = b; job = Creates i q d }))) ⊎ Holds s n b (Creates i q d) → ((k ≡ s.desk.next_session) × (◌≡◌ {A = Session} new (record { caller = a; job = Creates i r e }))) ⊎ Holds s k a (Creates i r e) → n ≡ k
+        alone : (n k b a : ℕ) (i : List ℕ) (q r d e : ℕ) → ((n ≡ s.desk.next_session) × (◌≡◌ {A = Session} (new s c j) (record { caller = b; job = Creates i q d }))) ⊎ Holds s n b (Creates i q d) → ((k ≡ s.desk.next_session) × (◌≡◌ {A = Session} (new s c j) (record { caller = a; job = Creates i r e }))) ⊎ Holds s k a (Creates i r e) → n ≡ k
         alone n k b a i q r d e (inl x) (inl y) = x.0 ∙ sym y.0
-        alone n k b a i q r d e (inl x) (inr y) = absurd ((creates i q d (job_is b (Creates i q d) x.1)).0 (inr (inr (k, a, r, e, y))))
-        alone n k b a i q r d e (inr x) (inl y) = absurd ((creates i r e (job_is a (Creates i r e) y.1)).0 (inr (inr (n, b, q, d, x))))
+        alone n k b a i q r d e (inl x) (inr y) = absurd ((creates i q d (job_is s c j b (Creates i q d) x.1)).0 (inr (inr (k, a, r, e, y))))
+        alone n k b a i q r d e (inr x) (inl y) = absurd ((creates i r e (job_is s c j a (Creates i r e) y.1)).0 (inr (inr (n, b, q, d, x))))
         alone n k b a i q r d e (inr x) (inr y) = h.alone n k b a i q r d e x y
 
   -- a creation begins

@@ -1,9 +1,8 @@
 -- Each put that the depot makes keeps a view sound, and each deletion does.
-use Rattle.std.proofs.Common.{◌≡◌, ◌≢◌, ◌≤◌, ◌<◌, ◌+◌, ℕ, List, Option, Some, None, IsSome, refl, sym, ap, subst, ◌∙◌, inl, inr, arith, All, get_or}
+use Rattle.std.proofs.Common.{◌≡◌, ◌≢◌, ◌≤◌, ◌<◌, ◌+◌, ℕ, List, Option, Some, None, IsSome, refl, sym, ap, subst, ◌∙◌, inl, inr, arith, get_or}
 use mathlib.Core.Logic.{◌⊎◌}
 use Rattle.std.specs.FinMap as fin
 use Rattle.lr_manifest.specs.Manifest.{Fields}
-use Rattle.lr_manifest.specs.declared.name.Name.{Name}
 use Rattle.lr_origin.specs.Text.{IsKind}
 use Rattle.lr_origin.specs.declared.key.KeyKind.{KeyKind}
 use Rattle.lr_origin.specs.declared.key.KeyKind.TheVariants.{Root, Expired, Deleted, Chunk, Manifest, Withdrawn}

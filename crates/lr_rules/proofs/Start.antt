@@ -1,12 +1,10 @@
--- A depot that starts over a sound view is safe, and an empty view is sound.
-use Rattle.std.proofs.Common.{◌≡◌, ℕ, List, Some, sym, subst, arith}
+-- A depot that starts over a sound view is safe.
+use Rattle.std.proofs.Common.{ℕ, sym, subst, arith}
 use Rattle.std.specs.Ordering.{nat_cmp}
-use Rattle.std.specs.FinMap as fin
 use Rattle.std.specs.FinMap.{same_map, get-empty}
 use Rattle.lr_origin.specs.Kind.{kind_cmp, kind_total, kind_exact}
-use Rattle.lr_origin.specs.declared.key.KeyKind.TheVariants.{Expired, Deleted, Manifest, Withdrawn}
+use Rattle.lr_origin.specs.declared.key.KeyKind.TheVariants.{Manifest, Withdrawn}
 use Rattle.lr_roots.specs.View.{View}
-use Rattle.lr_roots.specs.Sound.{IsSound}
 use Rattle.lr_rules.specs.Safe.{IsGood, IsSafe}
 use Rattle.lr_rules.specs.Start.{started, MayStart}
 use Rattle.lr_rules.proofs.Keys.{no_some}
@@ -34,16 +32,4 @@ start_safe v next may = record {
   few = may.most;
   drawn = λ n c i r d e. absurd (not_both _ _ (get-empty nat_cmp n) e);
   made = λ n c i r d e some. absurd (not_both _ _ (get-empty nat_cmp n) e);
-}
-
-pub empty_sound : IsSound fin.empty
-empty_sound = record {
-  keys = λ k h. absurd (no_some _ (get-empty kind_cmp k) h);
-  fits = λ k x e. absurd (not_both _ x (get-empty kind_cmp k) e);
-  no_gaps = λ k r q h of low high. absurd (no_some _ (get-empty kind_cmp k) h);
-  expired_first = λ r h. absurd (no_some _ (get-empty kind_cmp (Deleted r)) h);
-  never_active = λ r h. absurd (no_some _ (get-empty kind_cmp (Expired r)) h);
-  one_manifest = λ i q r x y a b. absurd (not_both _ x (get-empty kind_cmp (Manifest q i)) a);
-  complete = λ i r m live a. absurd (not_both _ _ (get-empty kind_cmp (Manifest r i)) a);
-  homed = λ i r h kept. absurd (no_some _ (get-empty kind_cmp (Manifest r i)) h);
 }

@@ -7,7 +7,7 @@ use Rattle.lr_manifest.specs.Manifest.{Fields, IsManifest}
 use Rattle.lr_text.specs.Name.{is_name}
 use Rattle.lr_origin.specs.Text.{IsKind}
 use Rattle.lr_origin.specs.declared.key.KeyKind.{KeyKind}
-use Rattle.lr_origin.specs.declared.key.KeyKind.TheVariants.{Root, Expired, Deleted, Chunk, Manifest, Withdrawn}
+use Rattle.lr_origin.specs.declared.key.KeyKind.TheVariants.{Root, Expired, Deleted, Manifest, Withdrawn}
 use Rattle.lr_roots.specs.View.{Held, salt, manifest, Has, Lacks}
 use Rattle.lr_roots.specs.Roots.{RootsAre, IsLive, IsHome, IsComplete}
 use Rattle.lr_roots.specs.Names.{number_of, AreFewer}

@@ -8,7 +8,7 @@ use Rattle.lr_roots.specs.View.{View, Held, manifest, Has, Lacks}
 use Rattle.lr_roots.specs.Roots.{IsHomed, IsComplete}
 use Rattle.lr_roots.specs.Names.{number_of}
 use Rattle.lr_roots.specs.Sound.{IsSound}
-use Rattle.lr_rules.specs.Known.{Known, Always, Agrees, Serves}
+use Rattle.lr_rules.specs.Known.{Always, Agrees, Serves}
 use Rattle.lr_rules.specs.State.{Job, Creates, Moves, Session, Desk, State, Holds}
 
 -- what a session rests on
