@@ -1,2 +1,3 @@
-pub mod Numbers
 pub mod Begun
+pub mod Listed
+pub mod Numbers
