@@ -41,12 +41,5 @@ pub(crate) fn is_in_doubt(doubts: &Keys, key: &Key) -> bool
 pub(crate) fn doubt_at(doubts: &Keys, at: u64) -> Option<&Key>
     ensures { key_of result ≡ slice_get (map.keys doubts.now) at }
 {
-    let mut place: u64 = 0;
-    for key in doubts.iter() {
-        if place == at {
-            return Some(key);
-        }
-        place += 1;
-    }
-    None
+    doubts.iter().nth(at as usize)
 }

@@ -1,5 +1,7 @@
 //! Leases and sessions by their numbers.
-ghost use Rattle.std.specs.Prelude.{◌≡◌, ◌≢◌, ◌≤◌, ◌<◌, ◌^◌, ◌↔◌, ℕ, IsTrue, OnOk, OnErr, MatchOption, Some, option_copied};
+ghost use Rattle.std.specs.Prelude.{◌≡◌, ◌≢◌, ◌≤◌, ◌<◌, ◌^◌, ◌↔◌, ℕ, length, IsTrue, OnOk, OnErr, MatchOption, Some, option_copied};
+ghost use Rattle.std.specs.Ordering.{nat_cmp};
+ghost use Rattle.std.specs.List.Sorted.{IsStrictlySortedBy};
 ghost use Rattle.std.specs.FinMap as map;
 ghost use Rattle.lr_rules.specs.State.{Session as PlainSession};
 ghost use Rattle.lr_depot.specs.Sessions.{Creates, without_caller};
@@ -7,7 +9,7 @@ ghost use Rattle.lr_depot.specs.Sessions.{Creates, without_caller};
 use lr_manifest::Manifest;
 use lr_origin::ImageName;
 use std::alloc::{AllocError, Global};
-use std::collections::BTreeMap;
+use std::collections::{BTreeMap, btree_map};
 use std::marker::Model;
 use std::sync::Arc;
 
@@ -53,10 +55,13 @@ pub(crate) struct Numbered<T: Drop> {
 
 impl<T: Drop> Model for Numbered<T> {
     ghost use Rattle.std.specs.Ordering.{nat_cmp};
+    ghost use Rattle.std.specs.Coded.{coded_ℕ};
     ghost use Rattle.std.specs.FinMap as map;
     ghost use Rattle.std.specs.FinMap.{FinMap};
 
     ghost Value = { FinMap nat_cmp T };
+
+    ghost coded = { map.code coded_ℕ T.code };
 
     ghost view = { λ a. map.from_entries a.entries.entries };
 }
@@ -97,6 +102,15 @@ impl<T: Drop> Numbered<T> {
     {
         self.entries.remove(&number);
     }
+
+    /// All things in the order of their numbers.
+    pub(crate) fn iter(&self) -> btree_map::Iter<'_, u64, T>
+        ensures list { result ≡ map.entries self.now }
+        ensures ordered { IsStrictlySortedBy nat_cmp (map.keys self.now) }
+        ensures fits { length result < 2 ^ 63 }
+    {
+        self.entries.iter()
+    }
 }
 
 // The least number of a session of the caller.
@@ -105,7 +119,7 @@ pub(crate) fn session_of(sessions: &Numbered<Session>, caller: u32) -> Option<u6
         ((n : ℕ) (s : PlainSession) → map.get sessions.now n ≡ Some s → s.caller ≢ caller)
         (λ n. (s : PlainSession) × (map.get sessions.now n ≡ Some s) × (s.caller ≡ caller)) }
 {
-    for (number, session) in sessions.entries.iter() {
+    for (number, session) in sessions.iter() {
         if session.caller == caller {
             return Some(*number);
         }
@@ -128,7 +142,7 @@ pub(crate) fn end_all(sessions: &mut Numbered<Session>, caller: u32)
 pub(crate) fn is_begun(sessions: &Numbered<Session>, image: &ImageName) -> bool
     ensures { IsTrue result ↔ Creates sessions.now image.now }
 {
-    for (_, session) in sessions.entries.iter() {
+    for (_, session) in sessions.iter() {
         if session.image == *image {
             return true;
         }

@@ -1,0 +1,6 @@
+use Rattle.lr_depot.proofs.Numbers.{AreLeft}
+use Rattle.lr_depot.proofs.Begun.{IsCreation}
+use Rattle.lr_depot.proofs.numbered.is_begun.Given as goal
+
+abbrev pub invariant-loop-session : goal.invariant-loop-session
+invariant-loop-session l = AreLeft l.sessions (IsCreation l.image) l.session-iterator
