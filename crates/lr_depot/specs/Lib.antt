@@ -4,3 +4,4 @@ pub mod Put
 pub mod Machine
 pub mod Store
 pub mod Kernel
+pub mod Owed
