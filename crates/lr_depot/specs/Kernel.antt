@@ -12,7 +12,9 @@ use Rattle.lr_depot.specs.declared.call.DepotReply.{DepotReply}
 use Rattle.lr_depot.specs.declared.call.DepotTold.{DepotTold}
 use Rattle.lr_depot.specs.declared.kernel.Kernel.{Kernel}
 use Rattle.lr_depot.specs.declared.kernel.Answer.{Answer}
-use Rattle.lr_depot.specs.Machine.{DepotStep, state_after, is_logged, IsTold}
+use Rattle.lr_origin.specs.declared.key.KeyKind.TheVariants.{Chunk}
+use Rattle.lr_depot.specs.declared.asking.Place.{Place}
+use Rattle.lr_depot.specs.Machine.{IsFetch, DepotStep, state_after, is_logged, IsTold}
 
 -- the sessions that made the puts of manifests that are in doubt
 abbrev pub Makers : Type 0
@@ -46,6 +48,11 @@ pub record IsReady (kernel : Kernel) : Type 0 where
   pub aside : kernel.catalog.aside ≡ None
   pub safe : IsSafe (state_of kernel makers)
   pub room : HasRoom (state_of kernel makers)
+
+-- the place is that of the chunk of the lease at this index
+pub record IsPlace (kernel : Kernel) (lease index : ℕ) (place : Place) : Type 0 where
+  pub fetch : (makers : Makers) → IsFetch (state_of kernel makers) lease index place.key
+  pub chunk : (r : ℕ) × (place.key ≡ Chunk r place.name.bytes)
 
 -- The depot answers so, and holds what the machine leaves. What the log is to keep of the reply is told with it.
 abbrev pub MovesBy : State → Kernel → ℕ → DepotCall → DepotNoted → DepotReply → Option DepotTold → Type 0

@@ -75,6 +75,11 @@ LeadsTo s m (e ∷ es) n =
     (call : DepotCall) × (reply : DepotReply) × (k : Objects) × DepotStep s e.caller call reply × Enters call reply e
     × StoreStep s e.caller call reply m (Some k) × LeadsTo (after_entry s e) k es n
 
+-- the store failed
+abbrev pub IsFault : DepotReply → Type 0
+IsFault (Fault k) = ⊤
+IsFault reply = ⊥
+
 -- whether an entry tells of a fault
 abbrev pub is_fault : LogEntry → Bool
 is_fault e = tells_fault e.reply

@@ -43,7 +43,8 @@ pub(crate) struct Answer {
 }
 
 impl Answer {
-    fn no_memory() -> Answer
+    /// Want of memory.
+    pub(crate) fn no_memory() -> Answer
         ensures { (result.reply ≡ DepotReply.OutOfMemory) × (result.told ≡ None) }
     {
         Answer {
@@ -53,8 +54,8 @@ impl Answer {
     }
 }
 
-// A logged reply.
-fn logged(reply: DepotReply, told: DepotTold) -> Answer
+/// A logged reply.
+pub(crate) fn logged(reply: DepotReply, told: DepotTold) -> Answer
     ensures { (result.reply ≡ reply) × (result.told ≡ Some told) }
 {
     Answer {

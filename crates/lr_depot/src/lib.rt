@@ -5,6 +5,7 @@
 //! names, `depot` the object and its start and end, `log` what is left of it.
 #![tactic(auto)]
 
+mod asking;
 mod call;
 mod kernel;
 mod doubts;
