@@ -1,3 +1,4 @@
 pub mod Begun
 pub mod Listed
 pub mod Numbers
+pub mod Puts

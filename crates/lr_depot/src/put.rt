@@ -10,6 +10,7 @@ ghost use Rattle.lr_roots.specs.Names.{AreFewer, IsNamed};
 ghost use Rattle.lr_rules.specs.Known.{Known};
 ghost use Rattle.lr_depot.specs.Put.{PutsKey, StoresKey};
 
+use crate::doubts::is_in_doubt;
 use lr_origin::{Key, Origin, OriginError, Put};
 use lr_roots::{Catalog, Kept, Keys};
 use lr_spec::OutOfMemory;
@@ -65,7 +66,7 @@ pub(crate) fn put_key<O: Origin>(
     let Ok(noted) = twin(&kept) else {
         return PutEnd::OutOfMemory;
     };
-    let again = doubts.get(&key).is_some();
+    let again = is_in_doubt(doubts, &key);
     if catalog.prepare(alloc, key, kept).is_err() {
         return PutEnd::OutOfMemory;
     }
@@ -93,10 +94,10 @@ pub(crate) fn put_key<O: Origin>(
             PutEnd::Fault
         }
         Err(OriginError::OutOfMemory) => {
+            catalog.forget();
             if !again {
                 doubts.remove(&key);
             }
-            catalog.forget();
             PutEnd::OutOfMemory
         }
     }
