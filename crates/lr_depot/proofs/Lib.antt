@@ -1,4 +1,6 @@
+pub mod Added
 pub mod Begun
+pub mod Counted
 pub mod Listed
 pub mod Numbers
 pub mod Puts

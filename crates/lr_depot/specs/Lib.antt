@@ -1,3 +1,4 @@
 pub mod Sessions
 pub mod Doubts
 pub mod Put
+pub mod Others
