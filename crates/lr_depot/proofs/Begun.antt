@@ -56,3 +56,10 @@ without_none caller m none = retained_all m (λ k. is_another caller (fin.get m 
     at : (n : ℕ) (o : Option Session) → fin.get m n ≡ o → is_another caller (fin.get m n) ≡ false → fin.get m n ≡ None
     at n None e out = e
     at n (Some s) e out = absurd (none n s e (eqb-true s.caller caller (was (s.caller == caller) (sym (ap (is_another caller) e) ∙ out))))
+
+-- the sessions of the map whose images pass are the create sessions
+pub creation_of : (m : FinMap nat_cmp Session) (image : List ℕ) → ((e : ℕ × Session) × (fin.get m e.0 ≡ Some e.1) × IsCreation image e.1) → Creates m image
+creation_of m image h = creates m image h.0.0 h.0.1 h.1 h.2
+
+pub of_creation : (m : FinMap nat_cmp Session) (image : List ℕ) → Creates m image → ((e : ℕ × Session) × (fin.get m e.0 ≡ Some e.1) × IsCreation image e.1)
+of_creation m image h = let s = created m image h in ((s.0, s.1), s.2, s.3)

@@ -1,5 +1,8 @@
+pub mod Added
 pub mod Begun
+pub mod Counted
 pub mod Listed
 pub mod Numbers
 pub mod Ready
 pub mod Fetching
+pub mod Puts

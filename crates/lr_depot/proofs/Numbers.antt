@@ -152,3 +152,10 @@ module _ {X : Type 0} where
 
   pub removed_beside : (m : FinMap nat_cmp X) (n q : ℕ) → eq_by_cmp nat_cmp q n ≡ false → fin.get (fin.remove m n) q ≡ fin.get m q
   removed_beside m n q f = get-remove nat_cmp_total m n q ∙ cond-false _ None _ f
+
+  -- the entries of a map are what it has
+  pub listed : (m : FinMap nat_cmp X) (es : List (ℕ × X)) → es ≡ entries m → (e : ℕ × X) → fin.get m e.0 ≡ Some e.1 → IsOneOf es e
+  listed m es is e has = subst (λ l. IsOneOf l e) (sym is) (found_in (entries m) e.0 e.1 (sym (get-entries m e.0) ∙ has))
+
+  pub has_listed : (m : FinMap nat_cmp X) (es : List (ℕ × X)) → es ≡ entries m → IsStrictlySortedBy nat_cmp (fin.keys m) → (e : ℕ × X) → IsOneOf es e → fin.get m e.0 ≡ Some e.1
+  has_listed m es is s e i = get-entries m e.0 ∙ find_in (entries m) e.0 e.1 s (subst (λ l. IsOneOf l e) is i)

@@ -1,5 +1,5 @@
 -- What holds of a depot that is ready.
-use Rattle.std.proofs.Common.{◌≡◌, ◌≤◌, ◌<◌, ◌+◌, ℕ, Bool, true, false, List, Option, Some, None, IsSome, IsTrue, refl, sym, ap, subst, ◌∙◌, inl, inr, arith}
+use Rattle.std.proofs.Common.{◌≡◌, ◌≤◌, ◌<◌, ◌+◌, ◌^◌, ℕ, Bool, true, false, List, Option, Some, None, IsSome, IsTrue, refl, sym, ap, subst, ◌∙◌, inl, inr, arith}
 use Rattle.std.specs.FinMap as map
 use Rattle.lr_origin.specs.declared.key.KeyKind.{KeyKind}
 use Rattle.lr_origin.specs.declared.key.KeyKind.TheVariants.{Root, Expired, Deleted, Chunk, Manifest, Withdrawn}
@@ -8,9 +8,16 @@ use Rattle.lr_roots.specs.View.{View, Held, salt, manifest, bare, Has, Lacks, Fi
 use Rattle.lr_manifest.specs.Manifest.{Fields}
 use Rattle.lr_roots.specs.Catalog.{salt_of, manifest_of}
 use Rattle.lr_roots.specs.Roots.{IsTop, RootsAre}
-use Rattle.lr_roots.specs.Sound.{IsSound, Suits}
-use Rattle.lr_rules.specs.State.{State}
+use Rattle.lr_roots.specs.Names.{Names, IsNamed, AreFewer}
+use Rattle.lr_roots.specs.Sound.{IsSound}
+use Rattle.lr_rules.specs.State.{State, Creates, Holds}
+use Rattle.lr_rules.specs.Names.{IsImage}
+use Rattle.lr_rules.proofs.Keys.{no_some}
+use Rattle.lr_rules.proofs.Outcomes.{is_none}
 use Rattle.lr_rules.proofs.Calls.{view_good}
+use Rattle.lr_rules.proofs.Grammar.{suits_fits, root_kind, doubt_kind, doubt_fits}
+use Rattle.lr_rules.proofs.Room.{insert_room, creation_names}
+use Rattle.lr_rules.proofs.Serving.{creation_serves}
 use Rattle.lr_depot.specs.declared.kernel.Kernel.{Kernel}
 use Rattle.lr_depot.specs.declared.kernel.Answer.{Answer}
 use Rattle.lr_depot.specs.declared.call.DepotCall.{DepotCall}
@@ -19,27 +26,6 @@ use Rattle.lr_depot.specs.declared.call.DepotReply.{DepotReply}
 use Rattle.lr_depot.specs.declared.call.DepotTold.{DepotTold}
 use Rattle.lr_depot.specs.Machine.{DepotStep, state_after, is_logged, IsTold}
 use Rattle.lr_depot.specs.Kernel.{Makers, state_of, IsOf, IsReady, MovesBy, Moves}
-
--- what suits a key is of its kind
-pub fits_suiting : (k : KeyKind) (x : Held) → Suits k x → Fits k x
-fits_suiting (Root r) (salt s) h = tt
-fits_suiting (Root r) (manifest m) h = absurd h
-fits_suiting (Root r) bare h = absurd h
-fits_suiting (Expired r) (salt s) h = absurd h
-fits_suiting (Expired r) (manifest m) h = absurd h
-fits_suiting (Expired r) bare h = tt
-fits_suiting (Deleted r) (salt s) h = absurd h
-fits_suiting (Deleted r) (manifest m) h = absurd h
-fits_suiting (Deleted r) bare h = tt
-fits_suiting (Chunk r n) (salt s) h = absurd h
-fits_suiting (Chunk r n) (manifest m) h = absurd h
-fits_suiting (Chunk r n) bare h = tt
-fits_suiting (Manifest r n) (salt s) h = absurd h
-fits_suiting (Manifest r n) (manifest m) h = tt
-fits_suiting (Manifest r n) bare h = absurd h
-fits_suiting (Withdrawn n) (salt s) h = absurd h
-fits_suiting (Withdrawn n) (manifest m) h = absurd h
-fits_suiting (Withdrawn n) bare h = tt
 
 -- a root that is there has a salt
 pub has_salt : (r : ℕ) (o : Option Held) → IsSome o → ((x : Held) → o ≡ Some x → Fits (Root r) x) → salt_of o ≡ None → ⊥
@@ -89,10 +75,43 @@ module _ (kernel : Kernel) (h : IsReady kernel) where
   ready_sound = (view_good (state_of kernel h.makers) h.safe).sound
 
   pub ready_fits : (k : KeyKind) (x : Held) → map.get kernel.catalog.view k ≡ Some x → Fits k x
-  ready_fits k x e = fits_suiting k x (ready_sound.fits k x e)
+  ready_fits k x e = suits_fits k x (ready_sound.fits k x e)
 
   pub ready_roots : (n : ℕ) → IsTop kernel.catalog.view n → RootsAre kernel.catalog.view n
   ready_roots n top = top_roots kernel.catalog.view n ready_sound top
+
+  -- the root of a creation is there
+  pub creation_root : (n c : ℕ) (image : List ℕ) (r d : ℕ) → map.get kernel.sessions n ≡ Some (record { caller = c; job = Creates image r d }) → IsRoot r
+  creation_root n c image r d holds =
+      root_kind (state_of kernel h.makers) h.safe r (creation_serves (state_of kernel h.makers) h.safe n c image r d holds).0.0
+
+  -- what is in doubt of a chunk is its key alone
+  pub doubted_chunk : (r : ℕ) (name : List ℕ) (k : KeyKind) (x : Held) → k ≡ Chunk r name → map.get kernel.doubts k ≡ Some x → x ≡ bare
+  doubted_chunk r name k x is here = by x (subst (λ k. Fits k x) is (doubt_fits (state_of kernel h.makers) h.safe k x here))
+    where
+      by : (x : Held) → Fits (Chunk r name) x → x ≡ bare
+      by (salt s) f = absurd f
+      by (manifest m) f = absurd f
+      by bare f = refl
+
+  -- a key that names no image, or the image of a creation, leaves the names few
+  pub chunk_few : (r : ℕ) (name : List ℕ) (k : KeyKind) (x : Held) → k ≡ Chunk r name → AreFewer (IsNamed (map.insert kernel.catalog.view k x)) (2 ^ 32)
+  chunk_few r name k x is = insert_room (state_of kernel h.makers) h.room k x (λ image n. absurd (subst (λ k. Names k image) is n))
+
+  pub root_few : (r : ℕ) (k : KeyKind) (x : Held) → k ≡ Root r → AreFewer (IsNamed (map.insert kernel.catalog.view k x)) (2 ^ 32)
+  root_few r k x is = insert_room (state_of kernel h.makers) h.room k x (λ image n. absurd (subst (λ k. Names k image) is n))
+
+  pub manifest_few : (n c : ℕ) (image : List ℕ) (r d : ℕ) (k : KeyKind) (x : Held) → map.get kernel.sessions n ≡ Some (record { caller = c; job = Creates image r d }) → k ≡ Manifest r image → AreFewer (IsNamed (map.insert kernel.catalog.view k x)) (2 ^ 32)
+  manifest_few n c image r d k x holds is =
+      insert_room (state_of kernel h.makers) h.room k x (λ i names. creation_names (state_of kernel h.makers) n c image r d holds i (subst (λ k. Names k i) is names))
+
+  -- no root past the last is in doubt
+  pub no_root_past : (n : ℕ) → 1000 ≤ n → Lacks kernel.doubts (Root (n + 1))
+  no_root_past n past = is_none _ (λ some. by (map.get kernel.doubts (Root (n + 1))) refl some)
+    where
+      by : (o : Option Held) → map.get kernel.doubts (Root (n + 1)) ≡ o → IsSome (map.get kernel.doubts (Root (n + 1))) → ⊥
+      by None e some = no_some _ e some
+      by (Some x) e some = let k : IsRoot (n + 1) = doubt_kind (state_of kernel h.makers) h.safe (Root (n + 1)) x e in absurd (omega (arith, k.1, past))
 
 -- a logged answer
 pub moves_logged : (s : State) (new : Kernel) (c : ℕ) (call : DepotCall) (noted : DepotNoted) (answer : Answer) (reply : DepotReply) (told : DepotTold)

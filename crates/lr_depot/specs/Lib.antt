@@ -5,3 +5,4 @@ pub mod Machine
 pub mod Store
 pub mod Kernel
 pub mod Owed
+pub mod Others

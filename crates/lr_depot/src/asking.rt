@@ -131,6 +131,7 @@ pub(crate) fn put_chunk<O: Origin>(
     let Some(creation) = creation_of(&kernel.sessions, session, caller) else {
         return logged(DepotReply::NoSession, DepotTold::NoSession);
     };
+    let body = chunk.bytes();
     let key = Key::of(&KeyKind::Chunk(creation.root, chunk.name().bytes));
     if kernel.catalog.has(&key) {
         return logged(DepotReply::Kept, DepotTold::Kept);
@@ -142,7 +143,7 @@ pub(crate) fn put_chunk<O: Origin>(
         alloc,
         key,
         Kept::Empty,
-        chunk.bytes(),
+        body,
     );
     match end {
         PutEnd::Kept => logged(DepotReply::Kept, DepotTold::Kept),

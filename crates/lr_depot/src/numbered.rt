@@ -113,7 +113,7 @@ impl<T: Drop> Numbered<T> {
     }
 }
 
-// The least number of a session of the caller.
+// The number of a session of the caller.
 pub(crate) fn session_of(sessions: &Numbered<Session>, caller: u32) -> Option<u64>
     ensures { MatchOption result
         ((n : ℕ) (s : PlainSession) → map.get sessions.now n ≡ Some s → s.caller ≢ caller)

@@ -1,5 +1,5 @@
 //! One put, with all that it does to the store and to what is known.
-ghost use Rattle.std.specs.Prelude.{◌≡◌, ◌≤◌, ◌^◌, Some, None, IfOk};
+ghost use Rattle.std.specs.Prelude.{◌≡◌, ◌≤◌, ◌^◌, Some, None, IfOk, OnOk, OnErr};
 ghost use Rattle.std.specs.FinMap as map;
 ghost use Rattle.lr_spec.specs.Rose.{Rose};
 ghost use Rattle.lr_spec.specs.Told.{Told};
@@ -10,6 +10,7 @@ ghost use Rattle.lr_roots.specs.Names.{AreFewer, IsNamed};
 ghost use Rattle.lr_rules.specs.Known.{Known};
 ghost use Rattle.lr_depot.specs.Put.{PutsKey, StoresKey};
 
+use crate::doubts::is_in_doubt;
 use lr_origin::{Key, Origin, OriginError, Put};
 use lr_roots::{Catalog, Kept, Keys};
 use lr_spec::OutOfMemory;
@@ -39,6 +40,31 @@ fn twin(kept: &Kept) -> Result<Kept, OutOfMemory>
     }
 }
 
+// Takes all memory of a put: the key stands aside, and its put is noted as in doubt. After an error nothing changed.
+fn begin(
+    catalog: &mut Catalog,
+    doubts: &mut Keys,
+    alloc: Global,
+    key: Key,
+    kept: Kept,
+) -> Result<(), OutOfMemory>
+    requires aside { catalog.old.aside ≡ None }
+    requires absent { Lacks catalog.old.view key }
+    requires fits { Fits key (plain kept) }
+    requires few { AreFewer (IsNamed (map.insert catalog.old.view key (plain kept))) (2 ^ 32) }
+    ensures aside { OnOk result (catalog.new ≡ record { view = catalog.old.view; aside = Some (key, plain kept) }) }
+    ensures noted { OnOk result (doubts.new ≡ map.insert doubts.old key (plain kept)) }
+    ensures err { OnErr result ((catalog.new ≡ catalog.old) × (doubts.new ≡ doubts.old)) }
+{
+    let noted = twin(&kept)?;
+    catalog.prepare(alloc, key, kept)?;
+    if doubts.insert(key, noted).is_err() {
+        catalog.forget();
+        return Err(OutOfMemory);
+    }
+    Ok(())
+}
+
 /// Puts an object whose key the view hasn't. Where its put is in doubt, both answers of the store tell that it is there.
 ///
 /// All memory, the doubt's too, is taken before the store is called.
@@ -62,15 +88,8 @@ pub(crate) fn put_key<O: Origin>(
     ensures never_falls { O.faults origin.old ≤ O.faults origin.new }
     ensures cause { result ≡ PutEnd.Fault → Rose (O.faults origin.old) (O.faults origin.new) }
 {
-    let Ok(noted) = twin(&kept) else {
-        return PutEnd::OutOfMemory;
-    };
-    let again = doubts.get(&key).is_some();
-    if catalog.prepare(alloc, key, kept).is_err() {
-        return PutEnd::OutOfMemory;
-    }
-    if doubts.insert(key, noted).is_err() {
-        catalog.forget();
+    let again = is_in_doubt(doubts, &key);
+    if begin(catalog, doubts, alloc, key, kept).is_err() {
         return PutEnd::OutOfMemory;
     }
     match origin.put(alloc, key.as_bytes(), body) {
@@ -93,10 +112,10 @@ pub(crate) fn put_key<O: Origin>(
             PutEnd::Fault
         }
         Err(OriginError::OutOfMemory) => {
+            catalog.forget();
             if !again {
                 doubts.remove(&key);
             }
-            catalog.forget();
             PutEnd::OutOfMemory
         }
     }
