@@ -4,5 +4,5 @@ pub mod Counted
 pub mod Listed
 pub mod Numbers
 pub mod Ready
-pub mod Fetching
+pub mod Bodies
 pub mod Puts

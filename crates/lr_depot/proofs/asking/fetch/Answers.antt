@@ -2,7 +2,7 @@ use Rattle.std.proofs.Common.{◌≡◌, Some, refl, sym, ap, ◌∙◌}
 use Rattle.std.specs.FinMap as map
 use Rattle.lr_origin.specs.Objects.{found}
 use Rattle.lr_depot.specs.Kernel.{state_of}
-use Rattle.lr_depot.proofs.Fetching.{fetched_store}
+use Rattle.lr_depot.proofs.Bodies.{fetched_store}
 use Rattle.lr_depot.proofs.asking.fetch.Goals as goal
 
 pub returns-clause-store : goal.returns-clause-store

@@ -1,10 +1,7 @@
-use Rattle.std.proofs.Common.{◌≡◌, ℕ, Some, refl, sym, ap, subst, ◌∙◌, inl}
-use Rattle.std.specs.Arc.{arc_value}
-use Rattle.lr_origin.specs.declared.key.KeyKind.TheVariants.{Chunk}
-use Rattle.lr_rules.specs.State.{Creates}
-use Rattle.lr_depot.specs.declared.call.DepotCall.TheVariants.{PutChunk}
-use Rattle.lr_depot.specs.Store.{StoreStep, IsChunkBody}
+use Rattle.std.proofs.Common.{◌≡◌, List, ℕ, length, sym, ap, ◌∙◌}
+use Rattle.sha2.specs.Sha256.{sha256}
 use Rattle.lr_depot.specs.Kernel.{state_of}
+use Rattle.lr_depot.proofs.Bodies.{kept_there}
 use Rattle.lr_depot.proofs.Ready.{creation_root, doubted_chunk, chunk_few}
 use Rattle.lr_depot.proofs.asking.put_chunk.Goals as goal
 
@@ -15,7 +12,10 @@ of-key-requires g c = record {
 
 pub returns-then-has-clause-store : goal.returns-then-has-clause-store
 returns-then-has-clause-store g c = λ makers m told.
-    subst (λ r. StoreStep (state_of c.args.kernel.now makers) c.args.caller (PutChunk c.args.session c.args.chunk) r m _) (sym c.logged-then-has.ensures.0) ?
+    kept_there (state_of c.args.kernel.now makers) c.args.caller c.args.session c.args.chunk c.logged-then-has.result.reply
+        c.in-Some.creation.image c.in-Some.creation.root c.in-Some.creation.number c.of-key.result c.name.result.now.bytes m _
+        c.logged-then-has.ensures.0 c.in-Some.ensures c.of-key.ensures (c.name.ensures ∙ ap sha256 c.deref-2.ensures)
+        (ap length (sym (c.bytes-body.ensures.bytes ∙ c.deref.ensures)) ∙ c.bytes-body.ensures.length) (c.has.ensures.0 c.if-has.true) told
 
 pub put_key-end-requires-clause-few : goal.put_key-end-requires-clause-few
 put_key-end-requires-clause-few g c = chunk_few c.args.kernel.now c.requires.ready _ _ _ _ c.of-key.ensures

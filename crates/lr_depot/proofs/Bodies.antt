@@ -1,5 +1,5 @@
--- A chunk that was got, in the store.
-use Rattle.std.proofs.Common.{◌≡◌, ℕ, List, length, Option, Some, refl, sym, ap, subst, ◌∙◌}
+-- Chunks and manifests in the store, as the calls that asked for them tell.
+use Rattle.std.proofs.Common.{◌≡◌, ℕ, List, length, Option, Some, refl, sym, ap, subst, ◌∙◌, inl}
 use Rattle.std.specs.Arc.{arc_value}
 use Rattle.std.specs.declared.sync.Arc.{Arc}
 use Rattle.std.specs.declared.alloc.Global.{Global}
@@ -9,10 +9,11 @@ use Rattle.lr_origin.specs.Objects.{Objects}
 use Rattle.lr_origin.specs.Text.{key_text}
 use Rattle.lr_origin.specs.declared.key.KeyKind.{KeyKind}
 use Rattle.lr_origin.specs.declared.key.KeyKind.TheVariants.{Chunk}
-use Rattle.lr_rules.specs.State.{State}
-use Rattle.lr_depot.specs.declared.call.DepotCall.TheVariants.{Fetch}
+use Rattle.lr_roots.specs.View.{Has}
+use Rattle.lr_rules.specs.State.{State, Creates, Holds}
+use Rattle.lr_depot.specs.declared.call.DepotCall.TheVariants.{Fetch, PutChunk}
 use Rattle.lr_depot.specs.declared.call.DepotReply.{DepotReply}
-use Rattle.lr_depot.specs.declared.call.DepotReply.TheVariants.{Fetched}
+use Rattle.lr_depot.specs.declared.call.DepotReply.TheVariants.{Fetched, Kept}
 use Rattle.lr_depot.specs.Machine.{IsFetch}
 use Rattle.lr_depot.specs.Store.{StoreStep, IsChunkBody}
 
@@ -26,4 +27,15 @@ fetched_store s c lease index handle reply k r name body m n is fetch chunk long
         subst (λ b. IsChunkBody k b) (sym same) (subst (λ k. IsChunkBody k body) (sym chunk) (long, digest)),
         got ∙ ap Some (sym same),
       ),
+    )
+
+-- a chunk that the view has
+pub kept_there : (s : State) (c session : ℕ) (chunk : Arc (List ℕ) Global) (reply : DepotReply) (image : List ℕ) (r d : ℕ) (k : KeyKind) (name : List ℕ) (m : Objects) (n : Option Objects)
+    → reply ≡ Kept → Holds s session c (Creates image r d) → k ≡ Chunk r name → name ≡ sha256 (arc_value chunk) → length (arc_value chunk) ≡ 524288
+    → Has s.known.view k → n ≡ Some m → StoreStep s c (PutChunk session chunk) reply m n
+kept_there s c session chunk reply image r d k name m n is holds key named long has left =
+    subst (λ a. StoreStep s c (PutChunk session chunk) a m n) (sym is) (
+      k, (Creates image r d, (holds, key ∙ ap (Chunk r) named)),
+      subst (λ k. IsChunkBody k (arc_value chunk)) (sym key) (long, sym named),
+      inl (has, left),
     )
