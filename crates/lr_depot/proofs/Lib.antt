@@ -2,3 +2,4 @@ pub mod Begun
 pub mod Listed
 pub mod Numbers
 pub mod Ready
+pub mod Logged
