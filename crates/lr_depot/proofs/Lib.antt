@@ -3,3 +3,5 @@ pub mod Listed
 pub mod Numbers
 pub mod Ready
 pub mod Logged
+pub mod Digests
+pub mod Moved
