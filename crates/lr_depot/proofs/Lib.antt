@@ -5,3 +5,5 @@ pub mod Ready
 pub mod Logged
 pub mod Digests
 pub mod Moved
+pub mod Stored
+pub mod Followed

@@ -92,7 +92,7 @@ abbrev MovesTo : State → State → Type 0
 MovesTo s t = (t ≡ s) ⊎ Steps s t
 
 -- what the log keeps of such a reply tells of no change
-abbrev IsStill : DepotTold → Type 0
+abbrev pub IsStill : DepotTold → Type 0
 IsStill told.NoImage = Unit {0}
 IsStill told.NoLease = Unit {0}
 IsStill told.NoChunk = Unit {0}
@@ -108,7 +108,7 @@ IsStill told.RootsEnd = Unit {0}
 IsStill (told.Spoiled k) = Unit {0}
 IsStill t = ⊥
 
-still : (s : State) (c : ℕ) (n : DepotNoted) (t : DepotTold) → IsStill t → state_after s c n t ≡ s
+pub still : (s : State) (c : ℕ) (n : DepotNoted) (t : DepotTold) → IsStill t → state_after s c n t ≡ s
 still s c (noted.OpenImage image) (told.Opened lease m) q = absurd q
 still s c (noted.Close lease) told.Closed q = absurd q
 still s c (noted.BeginCreate image) (told.Began session root bytes number) q = absurd q
@@ -122,7 +122,7 @@ still s c (noted.Rotate bytes) (told.Fault k) q = absurd q
 still s c noted.Reap told.Reaped q = absurd q
 still s c n t q = refl
 
-fetched_still : (chunk : _) (t : DepotTold) → IsTold (Fetched chunk) t → IsStill t
+pub fetched_still : (chunk : _) (t : DepotTold) → IsTold (Fetched chunk) t → IsStill t
 fetched_still chunk (told.Fetched name) e = tt
 fetched_still chunk t e = absurd e
 
@@ -135,7 +135,7 @@ module _ (s : State) (h : IsSafe s) (c : ℕ) where
   as_kept n m t u e f moves = subst (λ n. MovesTo s (state_after s c n t)) (sym e) (subst (λ t. MovesTo s (state_after s c m t)) (sym f) moves)
 
   -- the key of a chunk that a session puts
-  digest_named : (n : ℕ) (j : Job) (chunk : List ℕ) → Holds s n c j → IsKind (kind.Chunk (target j) (sha256 chunk))
+  pub digest_named : (n : ℕ) (j : Job) (chunk : List ℕ) → Holds s n c j → IsKind (kind.Chunk (target j) (sha256 chunk))
   digest_named n j chunk holds = digest_kind (target j) chunk (root_kind s h (target j) (target_serves s h n c j holds s.known.view (view_settles s.known h.agrees)).0)
 
   chunk_kept : (n : ℕ) (j : Job) (name : Name) (chunk : List ℕ) → Holds s n c j → name.bytes ≡ sha256 chunk → MovesTo s (state_after s c (noted.PutChunk n name) told.Kept)
