@@ -7,3 +7,4 @@ pub mod Digests
 pub mod Moved
 pub mod Stored
 pub mod Followed
+pub mod Owing
