@@ -1,8 +1,7 @@
 -- The store is always one of the ways in which the doubts can come out, so it is sound wherever a run ends.
-use Rattle.std.proofs.Common.{◌≡◌, ◌+◌, ℕ, List, [], ◌∷◌, Option, Some, None, IsSome, length, refl, sym, ap, subst, ◌∙◌, inl, inr, arith}
+use Rattle.std.proofs.Common.{◌≡◌, ◌+◌, ℕ, List, [], ◌∷◌, Option, Some, None, IsSome, refl, sym, ap, subst, ◌∙◌, inl, inr, arith}
 use mathlib.Core.Logic.{◌⊎◌}
 use Rattle.std.specs.Arc.{arc_value}
-use Rattle.std.specs.Ordering.{nat_cmp}
 use Rattle.std.specs.FinMap as map
 use Rattle.std.specs.FinMap.{get-empty}
 use Rattle.std.proofs.lemmas.Option.{slice_get_within, get_or_from_slice_get}
@@ -18,7 +17,7 @@ use Rattle.lr_roots.specs.View.{View, Held, salt, manifest, bare, Has, Lacks, Fi
 use Rattle.lr_roots.specs.Roots.{IsComplete}
 use Rattle.lr_roots.specs.Sound.{Suits}
 use Rattle.lr_opening.specs.Store.{Mirrors, HasChunks, IsSoundStore}
-use Rattle.lr_rules.specs.Known.{Known, Settles, accepted}
+use Rattle.lr_rules.specs.Known.{Known, accepted}
 use Rattle.lr_rules.specs.State.{Job, Creates, Session, State, Holds, target}
 use Rattle.lr_rules.specs.Start.{started, MayStart}
 use Rattle.lr_rules.specs.Safe.{IsSafe}

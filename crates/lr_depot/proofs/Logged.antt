@@ -1,12 +1,11 @@
 -- A log with one entry more.
-use Rattle.std.proofs.Common.{◌≡◌, ◌≤◌, ◌<◌, ◌+◌, ℕ, Bool, true, false, cond, List, [], ◌∷◌, ◌++◌, length, length-append, Option, Some, None, refl, sym, ap, subst, ◌∙◌, inl, inr, arith}
-use mathlib.Core.Logic.{◌⊎◌}
+use Rattle.std.proofs.Common.{◌≡◌, ◌≤◌, ◌+◌, ℕ, Bool, true, false, cond, List, [], ◌∷◌, ◌++◌, length, length-append, Option, Some, refl, ap, subst, ◌∙◌, inl, inr, arith}
 use Rattle.std.specs.List.{filter}
 use Rattle.std.specs.FinMap as map
 use Rattle.std.proofs.lemmas.List.Elements.{filter-append}
 use Rattle.std.proofs.lemmas.List.Sums.{fold-append}
 use Rattle.std.specs.Arc.{arc_value}
-use Rattle.lr_spec.specs.Rose.{Rose, last_count}
+use Rattle.lr_spec.specs.Rose.{Rose}
 use Rattle.lr_manifest.specs.Manifest.{spelling}
 use Rattle.lr_origin.specs.Objects.{Objects}
 use Rattle.lr_origin.specs.Text.{key_text}

@@ -1,6 +1,5 @@
 -- What a run owes its callers: known images keep their homes, and no creation number is drawn twice.
 use Rattle.std.proofs.Common.{◌≡◌, ◌≤◌, ◌<◌, ◌+◌, ℕ, zero, suc, List, [], ◌∷◌, Option, Some, None, refl, sym, ap, subst, ◌∙◌, inl, inr, arith}
-use mathlib.Core.Logic.{◌⊎◌}
 use Rattle.std.specs.Arc.{arc_value}
 use Rattle.std.specs.List.{slice_get}
 use Rattle.std.specs.FinMap as map
@@ -25,7 +24,7 @@ use Rattle.lr_depot.specs.declared.call.DepotReply.{DepotReply}
 use Rattle.lr_depot.specs.declared.call.DepotReply.TheVariants.{NoImage, Opened, NoLease, NoChunk, Fetched, Closed, NoRoot, Taken, Doubt, Full, Began, NoSession, Kept, Nonce, Missing, Made, Abandoned, RootsEnd, Rotated, Reaped, Nothing, Fault, Spoiled, OutOfMemory}
 use Rattle.lr_depot.specs.declared.call.DepotTold.{DepotTold}
 use Rattle.lr_depot.specs.declared.call.DepotTold.TheVariants as told
-use Rattle.lr_depot.specs.Machine.{LogEntry, DepotStep, state_after, after_entry, run, IsNoted, IsTold, Enters}
+use Rattle.lr_depot.specs.Machine.{LogEntry, DepotStep, state_after, after_entry, run, IsNoted, IsTold}
 use Rattle.lr_depot.specs.Owed.{Acknowledges, IsMade, IsKnown, IsOwed}
 use Rattle.lr_depot.specs.Store.{IsRun}
 use Rattle.lr_depot.proofs.Moved.{IsStill, still, fetched_still, entry_safe, run_safe, run_keeps}

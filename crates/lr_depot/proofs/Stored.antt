@@ -1,9 +1,6 @@
 -- One put in the store, in what is known, and in the ways in which the doubts can come out.
 use Rattle.std.proofs.Common.{◌≡◌, ◌≢◌, ℕ, List, Option, Some, None, IsSome, length, refl, sym, ap, subst, ◌∙◌, inl, inr}
 use mathlib.Core.Logic.{◌⊎◌}
-use Rattle.std.specs.Ordering.{nat_cmp}
-use Rattle.std.specs.declared.cmp.Ordering.{Ordering}
-use Rattle.std.specs.declared.cmp.Ordering.TheVariants.{Less, Equal, Greater}
 use Rattle.std.specs.Cmp.Lexicographic.{nat_list_cmp_total}
 use Rattle.std.specs.Cmp.{tied_itself}
 use Rattle.std.specs.FinMap as map
@@ -15,14 +12,14 @@ use Rattle.lr_origin.specs.Text.{key_text, IsKind}
 use Rattle.lr_origin.specs.declared.key.KeyKind.{KeyKind}
 use Rattle.lr_origin.specs.declared.key.KeyKind.TheVariants.{Chunk}
 use Rattle.lr_origin.proofs.TextOrder.{order_is_text}
-use Rattle.lr_roots.specs.View.{View, Held, Has, Lacks}
+use Rattle.lr_roots.specs.View.{View, Held, Lacks}
 use Rattle.lr_opening.specs.Store.{Mirrors, IsSame, IsBody, HasChunks}
 use Rattle.lr_rules.specs.Known.{Known, Settles, accepted, doubting}
 use Rattle.lr_rules.specs.State.{State}
 use Rattle.lr_rules.proofs.Doubts.{same_some}
 use Rattle.lr_rules.proofs.Keys.{no_some, cases_key, at_key, at_other, gone_key, gone_other}
 use Rattle.lr_rules.proofs.Maps as maps
-use Rattle.lr_rules.proofs.Outcomes.{not_both, is_some, settles_but}
+use Rattle.lr_rules.proofs.Outcomes.{not_both, settles_but}
 use Rattle.lr_rules.proofs.Sound.{split}
 use Rattle.lr_depot.specs.declared.put.PutEnd.{PutEnd}
 use Rattle.lr_depot.specs.declared.put.PutEnd.TheVariants.{Kept as Done, Fault as Failed, Spoiled as Bad, OutOfMemory as Unmade}
