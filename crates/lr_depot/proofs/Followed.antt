@@ -213,15 +213,31 @@ module _ (s : State) (h : IsSafe s) (c : ℕ) where
     step_chunks (Rotate bytes) (Spoiled k) step stores h = same_chunks stores.1 h
     step_chunks call reply step stores h = same_chunks stores h
 
-  -- The chunk of a lease is in the store, under its name.
-  pub fetch_there : (lease index : ℕ) (k : KeyKind) (m : Objects) → IsFetch s lease index k → Follows s.known m → HasChunks m → (body : List ℕ) × (map.get m (key_text k) ≡ Some body) × IsChunkBody k body
-  fetch_there lease index k m fetch f chunks =
-      let own : KeyKind = kind.Chunk fetch.home fetch.name.bytes in
-      let whole : IsComplete f.0 fetch.home fetch.manifest = leased_there s h lease fetch.image fetch.manifest fetch.out f.0 f.1 fetch.home fetch.homed in
-      let has : Has f.0 (kind.Chunk fetch.home fetch.name.bytes) = subst (λ (l : Name). Has f.0 (kind.Chunk fetch.home l.bytes)) (get_or_from_slice_get fetch.manifest.names index fetch.name fetch.name fetch.named) (whole index fetch.name (slice_get_within fetch.manifest.names index fetch.name fetch.named)) in
-      let of : IsKind (kind.Chunk fetch.home fetch.name.bytes) = f.2.kinds (kind.Chunk fetch.home fetch.name.bytes) has in
-      let object : (body : List ℕ) × (map.get m (key_text (kind.Chunk fetch.home fetch.name.bytes)) ≡ Some body) = seen_object (kind.Chunk fetch.home fetch.name.bytes) _ _ (f.2.each (kind.Chunk fetch.home fetch.name.bytes) of) has in
-      (object.0, ap (λ k. map.get m (key_text k)) fetch.key ∙ object.1, subst (λ k. IsChunkBody k object.0) (sym fetch.key) (chunks fetch.home fetch.name.bytes object.0 of object.1))
+  module _ (lease index : ℕ) (k : KeyKind) (m : Objects) (fetch : IsFetch s lease index k) (f : Follows s.known m) (chunks : HasChunks m) where
+    abbrev own : KeyKind
+    own = kind.Chunk fetch.home fetch.name.bytes
+
+    whole : IsComplete f.0 fetch.home fetch.manifest
+    whole = leased_there s h lease fetch.image fetch.manifest fetch.out f.0 f.1 fetch.home fetch.homed
+
+    has : Has f.0 own
+    has =
+        subst (λ (l : Name). Has f.0 (kind.Chunk fetch.home l.bytes)) (get_or_from_slice_get fetch.manifest.names index fetch.name fetch.name fetch.named)
+        (whole index fetch.name (slice_get_within fetch.manifest.names index fetch.name fetch.named))
+
+    of : IsKind own
+    of = f.2.kinds own has
+
+    object : (body : List ℕ) × (map.get m (key_text own) ≡ Some body)
+    object = seen_object own (map.get m (key_text own)) (map.get f.0 own) (f.2.each own of) has
+
+    -- The chunk of a lease is in the store, under its name.
+    pub fetch_there : (body : List ℕ) × (map.get m (key_text k) ≡ Some body) × IsChunkBody k body
+    fetch_there = (
+      object.0,
+      ap (λ k. map.get m (key_text k)) fetch.key ∙ object.1,
+      subst (λ k. IsChunkBody k object.0) (sym fetch.key) (chunks fetch.home fetch.name.bytes object.0 of object.1),
+    )
 
   -- no reply tells of a spoiled key
   pub never_spoiled : (call : DepotCall) (k : KeyKind) (m : Objects) (o : Option Objects) → Follows s.known m → HasChunks m → DepotStep s c call (Spoiled k) → StoreStep s c call (Spoiled k) m o → ⊥

@@ -177,3 +177,10 @@ module _ (end : ℕ) where
       let later : (d.0 ≤ b) × (b < end) = drawn_within xs d.0 d.2 j f b at_j tells_b in
       omega (arith, here.0, here.1, later.0)
   drawn_apart (x ∷ xs) first d (suc i) (suc j) e f a b less at_i at_j tells_a tells_b = drawn_apart xs d.0 d.2 i j e f a b (omega (arith, less)) at_i at_j tells_a tells_b
+
+-- The creation numbers of a run begin with the next one, and ascend with their places.
+pub numbers_apart : (s : State) (log : List LogEntry) → IsRun s log → (i j : ℕ) (e f : LogEntry) (a b : ℕ) → i < j → slice_get log i ≡ Some e → slice_get log j ≡ Some f → number_told e.reply ≡ Some a → number_told f.reply ≡ Some b → (s.desk.next_number ≤ a) × (a < b)
+numbers_apart s log is i j e f a b less at_i at_j tells_a tells_b =
+    let drawn : AreDrawn s.desk.next_number log (run s log).desk.next_number = numbers_ascend s log is in
+    ((drawn_within (run s log).desk.next_number log s.desk.next_number drawn i e a at_i tells_a).0,
+    drawn_apart (run s log).desk.next_number log s.desk.next_number drawn i j e f a b less at_i at_j tells_a tells_b)

@@ -72,10 +72,14 @@ seen_object k None None same has = absurd cc
 -- the ways out after a change, from those before it
 module _ (s : Known) (k : KeyKind) (x : Held) (v : View) (t : Settles s v) where
   settled_put : Settles (accepted s k x) (map.insert v k x)
-  settled_put = settles_but (accepted s k x) s k v (map.insert v k x) (λ q ne. sym (gone_other s.doubts k q ne)) (λ q ne. sym (at_other s.view k x q ne)) (at_other v k x) (λ none. at_key v k x ∙ sym (at_key s.view k x)) (λ y some. absurd (not_both _ y (gone_key s.doubts k) some)) t
+  settled_put =
+      settles_but (accepted s k x) s k v (map.insert v k x) (λ q ne. sym (gone_other s.doubts k q ne)) (λ q ne. sym (at_other s.view k x q ne)) (at_other v k x)
+      (λ none. at_key v k x ∙ sym (at_key s.view k x)) (λ y some. absurd (not_both _ y (gone_key s.doubts k) some)) t
 
   settled_there : map.get v k ≡ Some x → Settles (accepted s k x) v
-  settled_there here = settles_but (accepted s k x) s k v v (λ q ne. sym (gone_other s.doubts k q ne)) (λ q ne. sym (at_other s.view k x q ne)) (λ q ne. refl) (λ none. here ∙ sym (at_key s.view k x)) (λ y some. absurd (not_both _ y (gone_key s.doubts k) some)) t
+  settled_there here =
+      settles_but (accepted s k x) s k v v (λ q ne. sym (gone_other s.doubts k q ne)) (λ q ne. sym (at_other s.view k x q ne)) (λ q ne. refl)
+      (λ none. here ∙ sym (at_key s.view k x)) (λ y some. absurd (not_both _ y (gone_key s.doubts k) some)) t
 
   doubt_away : (map.get v k ≡ None) ⊎ (map.get v k ≡ Some x) → Settles (doubting s k x) v
   doubt_away way =
@@ -83,7 +87,9 @@ module _ (s : Known) (k : KeyKind) (x : Held) (v : View) (t : Settles s v) where
       (λ y some. subst (λ y. (map.get v k ≡ None) ⊎ (map.get v k ≡ Some y)) (same_some x y (sym (at_key s.doubts k x) ∙ some)) way) t
 
   doubt_there : Settles (doubting s k x) (map.insert v k x)
-  doubt_there = settles_but (doubting s k x) s k v (map.insert v k x) (λ q ne. sym (at_other s.doubts k x q ne)) (λ q ne. refl) (at_other v k x) (λ none. absurd (not_both _ x none (at_key s.doubts k x))) (λ y some. inr (at_key v k x ∙ sym (at_key s.doubts k x) ∙ some)) t
+  doubt_there =
+      settles_but (doubting s k x) s k v (map.insert v k x) (λ q ne. sym (at_other s.doubts k x q ne)) (λ q ne. refl) (at_other v k x)
+      (λ none. absurd (not_both _ x none (at_key s.doubts k x))) (λ y some. inr (at_key v k x ∙ sym (at_key s.doubts k x) ∙ some)) t
 
 -- where what is known is the same, and the objects are
 pub same_follows : (s : Known) (m n : Objects) → Some n ≡ Some m → Follows s m → Follows s n
