@@ -35,7 +35,7 @@ pub kept_there : (s : State) (c session : ℕ) (chunk : Arc (List ℕ) Global) (
     → Has s.known.view k → n ≡ Some m → StoreStep s c (PutChunk session chunk) reply m n
 kept_there s c session chunk reply image r d k name m n is holds key named long has left =
     subst (λ a. StoreStep s c (PutChunk session chunk) a m n) (sym is) (
-      k, (Creates image r d, (holds, key ∙ ap (Chunk r) named)),
+      k, (Creates image r d, holds, key ∙ ap (Chunk r) named),
       subst (λ k. IsChunkBody k (arc_value chunk)) (sym key) (long, sym named),
       inl (has, left),
     )

@@ -6,3 +6,9 @@ pub mod Numbers
 pub mod Ready
 pub mod Bodies
 pub mod Puts
+pub mod Logged
+pub mod Digests
+pub mod Moved
+pub mod Stored
+pub mod Followed
+pub mod Owing

@@ -11,6 +11,7 @@ use Rattle.lr_roots.specs.Roots.{IsTop, RootsAre}
 use Rattle.lr_roots.specs.Names.{Names, IsNamed, AreFewer}
 use Rattle.lr_roots.specs.Sound.{IsSound}
 use Rattle.lr_rules.specs.State.{State, Creates, Holds}
+use Rattle.lr_rules.specs.Known.{Known}
 use Rattle.lr_rules.specs.Names.{IsImage}
 use Rattle.lr_rules.proofs.Keys.{no_some}
 use Rattle.lr_rules.proofs.Outcomes.{is_none}
@@ -126,3 +127,19 @@ pub moves_unlogged : (s : State) (new : Kernel) (c : ℕ) (call : DepotCall) (no
     → Moves s new c call noted answer
 moves_unlogged s new c call noted answer reply is step logged of =
     subst (λ r. MovesBy s new c call noted r answer.told) (sym is.0) (subst (MovesBy s new c call noted reply) (sym is.1) (step, logged, of))
+
+-- after a put that left the rest, with the state of a call that is known by it
+pub known_after : (new : Kernel) (t : State) → new.catalog.aside ≡ None
+    → record { view = new.catalog.view; doubts = new.doubts } ≡ t.known
+    → new.leases ≡ t.desk.leases → new.sessions ≡ t.desk.sessions → new.next_lease ≡ t.desk.next_lease → new.next_session ≡ t.desk.next_session → new.next_number ≡ t.desk.next_number
+    → IsOf new t
+known_after new t aside known leases sessions next_lease next_session next_number = record {
+  aside = aside;
+  view = ap (λ (k : Known). k.view) known;
+  doubts = ap (λ (k : Known). k.doubts) known;
+  leases = leases;
+  sessions = sessions;
+  next_lease = next_lease;
+  next_session = next_session;
+  next_number = next_number;
+}
