@@ -1,5 +1,5 @@
 -- What holds of a depot that is ready.
-use Rattle.std.proofs.Common.{◌≡◌, ◌≤◌, ◌<◌, ◌+◌, ◌^◌, ℕ, Bool, true, false, List, Option, Some, None, IsSome, IsTrue, refl, sym, ap, subst, ◌∙◌, inl, inr, arith}
+use Rattle.std.proofs.Common.{◌≡◌, ◌≤◌, ◌<◌, ◌+◌, ◌^◌, ℕ, Bool, true, false, List, length, Option, Some, None, IsSome, IsTrue, refl, sym, ap, subst, ◌∙◌, inl, inr, arith}
 use Rattle.std.specs.FinMap as map
 use Rattle.lr_origin.specs.declared.key.KeyKind.{KeyKind}
 use Rattle.lr_origin.specs.declared.key.KeyKind.TheVariants.{Root, Expired, Deleted, Chunk, Manifest, Withdrawn}
@@ -12,6 +12,7 @@ use Rattle.lr_roots.specs.Names.{Names, IsNamed, AreFewer}
 use Rattle.lr_roots.specs.Sound.{IsSound}
 use Rattle.lr_rules.specs.State.{State, Creates, Holds}
 use Rattle.lr_rules.specs.Known.{Known}
+use Rattle.lr_rules.specs.Calls.{MayRotate}
 use Rattle.lr_rules.specs.Names.{IsImage}
 use Rattle.lr_rules.proofs.Keys.{no_some}
 use Rattle.lr_rules.proofs.Outcomes.{is_none}
@@ -113,6 +114,20 @@ module _ (kernel : Kernel) (h : IsReady kernel) where
       by : (o : Option Held) → map.get kernel.doubts (Root (n + 1)) ≡ o → IsSome (map.get kernel.doubts (Root (n + 1))) → ⊥
       by None e some = no_some _ e some
       by (Some x) e some = let k : IsRoot (n + 1) = doubt_kind (state_of kernel h.makers) h.safe (Root (n + 1)) x e in absurd (omega (arith, k.1, past))
+
+  -- the next root may be put
+  pub may_rotate : (makers : Makers) (n : ℕ) (bytes : List ℕ) (k : KeyKind) {b : Bool} → IsTop kernel.catalog.view n → n < 1000 → k ≡ Root (n + 1)
+      → (IsTrue b → Has kernel.doubts k) × (Has kernel.doubts k → IsTrue b) → b ≡ false → length bytes ≡ 32 → MayRotate (state_of kernel makers) n bytes
+  may_rotate makers n bytes k {b} top few is told off long = record {
+    roots = ready_roots n top;
+    sure = subst (λ k. map.get kernel.doubts k ≡ None) is (is_none _ (λ has. clash b (told.1 has) off));
+    few = few;
+    suits = long;
+  }
+    where
+      clash : (b : Bool) → IsTrue b → b ≡ false → ⊥
+      clash true set off = cc
+      clash false set off = cc
 
 -- a logged answer
 pub moves_logged : (s : State) (new : Kernel) (c : ℕ) (call : DepotCall) (noted : DepotNoted) (answer : Answer) (reply : DepotReply) (told : DepotTold)

@@ -1,5 +1,5 @@
 //! The calls that the store is asked for: at most one call of the store each.
-ghost use Rattle.std.specs.Prelude.{◌≡◌, ◌≤◌, ℕ, List, Some, None, slice_get, IfOk, IsErrOf};
+ghost use Rattle.std.specs.Prelude.{◌≡◌, ◌≤◌, ℕ, List, Some, None, length, slice_get, IfOk, IsErrOf};
 ghost use Rattle.std.specs.FinMap as map;
 ghost use Rattle.std.specs.Arc.{arc_value};
 ghost use Rattle.sha2.specs.Sha256.{sha256};
@@ -208,6 +208,14 @@ pub(crate) fn put_manifest<O: Origin>(
     }
 }
 
+// The bytes of a salt.
+fn salt_bytes(salt: &[u8; 32]) -> &[u8]
+    ensures same { result.now ≡ salt.now }
+    ensures long { length result.now ≡ 32 }
+{
+    salt
+}
+
 /// Puts the next root.
 pub(crate) fn rotate<O: Origin>(
     origin: &mut O,
@@ -226,6 +234,7 @@ pub(crate) fn rotate<O: Origin>(
     if last >= ROOTS_MAX {
         return logged(DepotReply::RootsEnd, DepotTold::RootsEnd);
     }
+    let body = salt_bytes(&salt);
     let root = last + 1;
     let key = Key::of(&KeyKind::Root(root));
     if is_in_doubt(&kernel.doubts, &key) {
@@ -238,7 +247,7 @@ pub(crate) fn rotate<O: Origin>(
         alloc,
         key,
         Kept::Salt(salt),
-        &salt,
+        body,
     );
     match end {
         PutEnd::Kept => logged(DepotReply::Rotated { root }, DepotTold::Rotated { root }),
