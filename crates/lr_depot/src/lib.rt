@@ -14,3 +14,6 @@ mod numbered;
 mod put;
 
 pub use call::{DepotCall, DepotNoted, DepotReply, DepotTold};
+
+#[cfg(test)]
+mod leaf_tests;
