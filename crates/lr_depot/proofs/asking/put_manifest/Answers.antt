@@ -10,3 +10,10 @@ of-key-requires g c = record {
 pub put_key-end-requires-clause-few : goal.put_key-end-requires-clause-few
 put_key-end-requires-clause-few g c =
     manifest_few c.args.kernel.now c.requires.ready c.args.session c.args.caller c.in-Some.creation.image c.in-Some.creation.root c.in-Some.creation.number _ _ c.in-Some.ensures c.of-key.ensures
+
+pub returns-in-Fault-clause-served : goal.returns-in-Fault-clause-served
+returns-in-Fault-clause-served g c = λ makers.
+    let root : c.root.result ≡ c.in-Some.creation.root = ? in
+    let number : c.number.result ≡ c.in-Some.creation.number = ? in
+    let whole : Unit {0} = c.in_default-missing.ensures in
+    ?
