@@ -8,14 +8,18 @@ use Rattle.sha2.specs.Sha256.{sha256}
 use Rattle.lr_origin.specs.Objects.{Objects}
 use Rattle.lr_origin.specs.Text.{key_text}
 use Rattle.lr_origin.specs.declared.key.KeyKind.{KeyKind}
-use Rattle.lr_origin.specs.declared.key.KeyKind.TheVariants.{Chunk}
+use Rattle.lr_origin.specs.declared.key.KeyKind.TheVariants.{Chunk, Manifest}
+use Rattle.lr_manifest.specs.Manifest.{Fields, spelling}
 use Rattle.lr_roots.specs.View.{Has}
+use Rattle.lr_roots.specs.Names.{number_of}
+use Rattle.lr_roots.specs.Sound.{maker_of}
 use Rattle.lr_rules.specs.State.{State, Creates, Holds}
-use Rattle.lr_depot.specs.declared.call.DepotCall.TheVariants.{Fetch, PutChunk}
+use Rattle.lr_depot.specs.declared.call.DepotCall.TheVariants.{Fetch, PutChunk, PutManifest}
 use Rattle.lr_depot.specs.declared.call.DepotReply.{DepotReply}
-use Rattle.lr_depot.specs.declared.call.DepotReply.TheVariants.{Fetched, Kept}
+use Rattle.lr_depot.specs.declared.call.DepotReply.TheVariants.{Fetched, Kept, Made}
 use Rattle.lr_depot.specs.Machine.{IsFetch}
-use Rattle.lr_depot.specs.Store.{StoreStep, IsChunkBody}
+use Rattle.lr_depot.specs.declared.put.PutEnd.TheVariants.{Kept as Done}
+use Rattle.lr_depot.specs.Store.{StoreStep, IsChunkBody, Puts}
 
 pub fetched_store : (s : State) (c lease index : ℕ) (handle : Arc (List ℕ) Global) (reply : DepotReply) (k : KeyKind) (r : ℕ) (name body : List ℕ) (m : Objects) (n : Option Objects)
     → reply ≡ Fetched handle → IsFetch s lease index k → k ≡ Chunk r name → length body ≡ 524288 → sha256 body ≡ name → arc_value handle ≡ body
@@ -38,4 +42,15 @@ kept_there s c session chunk reply image r d k name m n is holds key named long 
       k, (Creates image r d, holds, key ∙ ap (Chunk r) named),
       subst (λ k. IsChunkBody k (arc_value chunk)) (sym key) (long, sym named),
       inl (has, left),
+    )
+
+-- the manifest of a creation
+pub made_store : (s : State) (c session : ℕ) (p : Arc Fields Global) (reply : DepotReply) (image : List ℕ) (r d : ℕ) (k : KeyKind) (body : List ℕ) (m : Objects) (n : Option Objects)
+    → reply ≡ Made r → Holds s session c (Creates image r d) → maker_of (arc_value p) ≡ r → number_of (arc_value p) ≡ d → k ≡ Manifest r image → body ≡ spelling (arc_value p)
+    → Puts s k body Done m n → StoreStep s c (PutManifest session p) reply m n
+made_store s c session p reply image r d k body m n is holds root number key spelled puts =
+    subst (λ a. StoreStep s c (PutManifest session p) a m n) (sym is) (
+      image,
+      record { number = d; session = holds; root = root; drawn = number },
+      subst (λ k. Puts s k (spelling (arc_value p)) Done m n) key (subst (λ b. Puts s k b Done m n) spelled puts),
     )

@@ -115,19 +115,23 @@ module _ (kernel : Kernel) (h : IsReady kernel) where
       by None e some = no_some _ e some
       by (Some x) e some = let k : IsRoot (n + 1) = doubt_kind (state_of kernel h.makers) h.safe (Root (n + 1)) x e in absurd (omega (arith, k.1, past))
 
+  -- what isn't found in doubt is sure
+  pub is_sure : (k : KeyKind) {b : Bool} → (IsTrue b → Has kernel.doubts k) × (Has kernel.doubts k → IsTrue b) → b ≡ false → map.get kernel.doubts k ≡ None
+  is_sure k {b} told off = is_none _ (λ has. clash b (told.1 has) off)
+    where
+      clash : (b : Bool) → IsTrue b → b ≡ false → ⊥
+      clash true set off = cc
+      clash false set off = cc
+
   -- the next root may be put
   pub may_rotate : (makers : Makers) (n : ℕ) (bytes : List ℕ) (k : KeyKind) {b : Bool} → IsTop kernel.catalog.view n → n < 1000 → k ≡ Root (n + 1)
       → (IsTrue b → Has kernel.doubts k) × (Has kernel.doubts k → IsTrue b) → b ≡ false → length bytes ≡ 32 → MayRotate (state_of kernel makers) n bytes
   may_rotate makers n bytes k {b} top few is told off long = record {
     roots = ready_roots n top;
-    sure = subst (λ k. map.get kernel.doubts k ≡ None) is (is_none _ (λ has. clash b (told.1 has) off));
+    sure = subst (λ k. map.get kernel.doubts k ≡ None) is (is_sure k told off);
     few = few;
     suits = long;
   }
-    where
-      clash : (b : Bool) → IsTrue b → b ≡ false → ⊥
-      clash true set off = cc
-      clash false set off = cc
 
 -- a logged answer
 pub moves_logged : (s : State) (new : Kernel) (c : ℕ) (call : DepotCall) (noted : DepotNoted) (answer : Answer) (reply : DepotReply) (told : DepotTold)
