@@ -27,6 +27,8 @@ use Rattle.lr_depot.specs.declared.call.DepotNoted.{DepotNoted}
 use Rattle.lr_depot.specs.declared.call.DepotReply.{DepotReply}
 use Rattle.lr_depot.specs.declared.call.DepotTold.{DepotTold}
 use Rattle.lr_depot.specs.Machine.{DepotStep, state_after, is_logged, IsTold}
+use Rattle.lr_depot.specs.Sessions.{Creates as Begun}
+use Rattle.lr_depot.specs.Doubts.{IsManifestOfImage}
 use Rattle.lr_depot.specs.Kernel.{Makers, state_of, IsOf, IsReady, MovesBy, Moves}
 
 -- a root that is there has a salt
@@ -71,6 +73,14 @@ top_roots v n s top = (
   λ r first within. s.no_gaps (Root n) n r (top.1 (omega (arith, first, within))) refl first within,
   λ r has. let k : IsRoot r = s.keys (Root r) has in (k.0, top.0 r has),
 )
+
+-- what a test told as false isn't so
+pub is_not : {P : Type 0} {b : Bool} → (IsTrue b → P) × (P → IsTrue b) → b ≡ false → ¬ P
+is_not {P} {b} told off p = clash b (told.1 p) off
+  where
+    clash : (b : Bool) → IsTrue b → b ≡ false → ⊥
+    clash true set off = cc
+    clash false set off = cc
 
 module _ (kernel : Kernel) (h : IsReady kernel) where
   pub ready_sound : IsSound kernel.catalog.view
@@ -117,11 +127,14 @@ module _ (kernel : Kernel) (h : IsReady kernel) where
 
   -- what isn't found in doubt is sure
   pub is_sure : (k : KeyKind) {b : Bool} → (IsTrue b → Has kernel.doubts k) × (Has kernel.doubts k → IsTrue b) → b ≡ false → map.get kernel.doubts k ≡ None
-  is_sure k {b} told off = is_none _ (λ has. clash b (told.1 has) off)
-    where
-      clash : (b : Bool) → IsTrue b → b ≡ false → ⊥
-      clash true set off = cc
-      clash false set off = cc
+  is_sure k told off = is_none _ (is_not told off)
+
+  -- an image that nothing names is new
+  pub is_new : (makers : Makers) (image : List ℕ) → ¬ (IsNamed kernel.catalog.view image) → ¬ (Begun kernel.sessions image)
+      → ((k : KeyKind) → ¬ (Has kernel.doubts k × IsManifestOfImage image k)) → ¬ (IsImage (state_of kernel makers) image)
+  is_new makers image named begun sure (inl i) = named i
+  is_new makers image named begun sure (inr (inl i)) = sure (Manifest i.0 image) (i.1, refl)
+  is_new makers image named begun sure (inr (inr i)) = begun i
 
   -- the next root may be put
   pub may_rotate : (makers : Makers) (n : ℕ) (bytes : List ℕ) (k : KeyKind) {b : Bool} → IsTop kernel.catalog.view n → n < 1000 → k ≡ Root (n + 1)

@@ -142,7 +142,10 @@ impl Kernel {
         let Ok(count) = images(alloc, &self.catalog, &self.doubts, &self.sessions) else {
             return Answer::no_memory();
         };
-        if count >= IMAGES_MAX as u64 || self.next_number > NUMBER_MAX {
+        if count >= IMAGES_MAX as u64 {
+            return logged(DepotReply::Full, DepotTold::Full);
+        }
+        if self.next_number > NUMBER_MAX {
             return logged(DepotReply::Full, DepotTold::Full);
         }
         // Its contract says that the name is one of the grammar.
