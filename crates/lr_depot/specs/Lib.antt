@@ -6,3 +6,6 @@ pub mod Store
 pub mod Kernel
 pub mod Owed
 pub mod Others
+pub mod Left
+pub mod Begun
+pub mod Depot

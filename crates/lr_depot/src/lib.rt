@@ -7,13 +7,20 @@
 
 mod asking;
 mod call;
-mod kernel;
+mod depot;
 mod doubts;
 mod images;
+mod kernel;
+mod log;
 mod numbered;
 mod put;
+mod start;
 
 pub use call::{DepotCall, DepotNoted, DepotReply, DepotTold};
+pub use depot::{Depot, StartError};
+pub use log::DepotLog;
+pub use lr_opening::StartCause;
+pub use start::DepotStart;
 
 #[cfg(test)]
 mod leaf_tests;

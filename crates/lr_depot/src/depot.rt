@@ -1,0 +1,410 @@
+//! The depot as an object with a log.
+ghost use Rattle.std.specs.Prelude.{◌≡◌, ◌≤◌, ◌<◌, ◌+◌, ◌^◌, ℕ, Option, IsSome, IsTrue, IfOk, IfErr, vec_len, vec_capacity};
+ghost use Rattle.lr_opening.specs.Cause.{IsCause};
+ghost use Rattle.lr_depot.specs.declared.call.DepotCall.TheVariants as call;
+ghost use Rattle.lr_depot.specs.Kernel.{places};
+ghost use Rattle.lr_depot.specs.Begun.{Start};
+ghost use Rattle.lr_depot.specs.Depot.{IsWhole, Did, grown};
+
+use crate::asking::{fetch, put_chunk, put_manifest, rotate};
+use crate::call::{DepotCall, DepotNoted, DepotReply, DepotTold};
+use crate::kernel::{Answer, Kernel, creation_of};
+use crate::log::DepotLog;
+use crate::numbered::Numbered;
+use crate::start::DepotStart;
+use lr_manifest::{Chunk, Manifest};
+use lr_object::{Entry, Object};
+use lr_opening::{StartCause, open};
+use lr_origin::{ImageName, Origin};
+use lr_roots::{Catalog, Keys};
+use std::alloc::Global;
+use std::marker::Model;
+use std::snapshot::Snapshot;
+use std::sync::Arc;
+
+/// Why a depot didn't start. The store comes back.
+#[derive(Drop)]
+pub struct StartError<O: Origin> {
+    pub cause: StartCause,
+    pub origin: O,
+}
+
+/// The store, what the depot holds, and the log.
+#[derive(Drop)]
+pub(crate) struct Body<O: Origin> {
+    pub(crate) origin: O,
+    pub(crate) kernel: Kernel,
+    pub(crate) log: Vec<Entry<DepotNoted, DepotTold>>,
+}
+
+// Keeps what the log is to keep of a call, and gives the reply.
+fn finish(
+    log: &mut Vec<Entry<DepotNoted, DepotTold>>,
+    caller: u32,
+    call: DepotNoted,
+    answer: Answer,
+) -> DepotReply
+    requires room { IsSome answer.told → vec_len log.old < vec_capacity log.old }
+    ensures reply { result ≡ answer.reply }
+    ensures log { log.new.items ≡ grown log.old.items caller call answer.told }
+    ensures capacity { vec_capacity log.new ≡ vec_capacity log.old }
+{
+    let Answer { reply, told } = answer;
+    if let Some(told) = told {
+        log.push_reserved(Entry {
+            caller,
+            call,
+            reply: told,
+        });
+    }
+    reply
+}
+
+impl<O: Origin> Body<O> {
+    // Takes the places in the log of a call, of a lease or session that it may begin, and of all that are out.
+    fn take_places(&mut self) -> bool
+        requires few { places self.old.kernel + 2 < 2 ^ 64 }
+        ensures taken { IsTrue result → vec_len self.new.log + places self.new.kernel + 2 ≤ vec_capacity self.new.log }
+        ensures items { self.new.log.items ≡ self.old.log.items }
+        ensures len { vec_len self.new.log ≡ vec_len self.old.log }
+        ensures capacity { vec_capacity self.old.log ≤ vec_capacity self.new.log }
+        ensures rest { (self.new.origin ≡ self.old.origin) × (self.new.kernel ≡ self.old.kernel) }
+    {
+        let places = self.kernel.places() + 2;
+        self.log.reserve(places).is_ok()
+    }
+
+    fn open_image(&mut self, caller: u32, image: ImageName) -> DepotReply
+        ensures did { (start : Start) → IsWhole O.objects O.faults start self.old → Did O.objects O.faults start self.old self.new caller (call.OpenImage image) result }
+    {
+        if !self.take_places() {
+            return DepotReply::OutOfMemory;
+        }
+        let answer = self.kernel.open_image(caller, image);
+        finish(
+            &mut self.log,
+            caller,
+            DepotNoted::OpenImage { image },
+            answer,
+        )
+    }
+
+    fn fetch(&mut self, alloc: Global, caller: u32, lease: u64, index: u32) -> DepotReply
+        ensures did { (start : Start) → IsWhole O.objects O.faults start self.old → Did O.objects O.faults start self.old self.new caller (call.Fetch lease index) result }
+    {
+        if !self.take_places() {
+            return DepotReply::OutOfMemory;
+        }
+        let answer = fetch(
+            &mut self.origin,
+            &self.kernel,
+            alloc,
+            caller,
+            lease,
+            index,
+        );
+        finish(
+            &mut self.log,
+            caller,
+            DepotNoted::Fetch { lease, index },
+            answer,
+        )
+    }
+
+    // A lease that is out has its place.
+    fn close(&mut self, caller: u32, lease: u64) -> DepotReply
+        ensures did { (start : Start) → IsWhole O.objects O.faults start self.old → Did O.objects O.faults start self.old self.new caller (call.Close lease) result }
+    {
+        if self.kernel.leases.get(lease).is_none() && !self.take_places() {
+            return DepotReply::OutOfMemory;
+        }
+        let answer = self.kernel.close(caller, lease);
+        finish(
+            &mut self.log,
+            caller,
+            DepotNoted::Close { lease },
+            answer,
+        )
+    }
+
+    fn begin_create(&mut self, alloc: Global, caller: u32, image: ImageName) -> DepotReply
+        ensures did { (start : Start) → IsWhole O.objects O.faults start self.old → Did O.objects O.faults start self.old self.new caller (call.BeginCreate image) result }
+    {
+        if !self.take_places() {
+            return DepotReply::OutOfMemory;
+        }
+        let answer = self.kernel.begin_create(alloc, caller, image);
+        finish(
+            &mut self.log,
+            caller,
+            DepotNoted::BeginCreate { image },
+            answer,
+        )
+    }
+
+    fn put_chunk(
+        &mut self,
+        alloc: Global,
+        caller: u32,
+        session: u64,
+        chunk: Arc<Chunk>,
+    ) -> DepotReply
+        ensures did { (start : Start) → IsWhole O.objects O.faults start self.old → Did O.objects O.faults start self.old self.new caller (call.PutChunk session chunk) result }
+    {
+        if !self.take_places() {
+            return DepotReply::OutOfMemory;
+        }
+        let name = *chunk.name();
+        let answer = put_chunk(
+            &mut self.origin,
+            &mut self.kernel,
+            alloc,
+            caller,
+            session,
+            chunk,
+        );
+        finish(
+            &mut self.log,
+            caller,
+            DepotNoted::PutChunk { session, name },
+            answer,
+        )
+    }
+
+    fn put_manifest(
+        &mut self,
+        alloc: Global,
+        caller: u32,
+        session: u64,
+        manifest: Arc<Manifest>,
+    ) -> DepotReply
+        ensures did { (start : Start) → IsWhole O.objects O.faults start self.old → Did O.objects O.faults start self.old self.new caller (call.PutManifest session manifest) result }
+    {
+        if !self.take_places() {
+            return DepotReply::OutOfMemory;
+        }
+        let answer = put_manifest(
+            &mut self.origin,
+            &mut self.kernel,
+            alloc,
+            caller,
+            session,
+            &manifest,
+        );
+        finish(
+            &mut self.log,
+            caller,
+            DepotNoted::PutManifest { session, manifest },
+            answer,
+        )
+    }
+
+    // A session that is out has its place.
+    fn abandon(&mut self, caller: u32, session: u64) -> DepotReply
+        ensures did { (start : Start) → IsWhole O.objects O.faults start self.old → Did O.objects O.faults start self.old self.new caller (call.Abandon session) result }
+    {
+        if creation_of(&self.kernel.sessions, session, caller).is_none() && !self.take_places() {
+            return DepotReply::OutOfMemory;
+        }
+        let answer = self.kernel.abandon(caller, session);
+        finish(
+            &mut self.log,
+            caller,
+            DepotNoted::Abandon { session },
+            answer,
+        )
+    }
+
+    fn rotate(&mut self, alloc: Global, caller: u32, salt: [u8; 32]) -> DepotReply
+        ensures did { (start : Start) → IsWhole O.objects O.faults start self.old → Did O.objects O.faults start self.old self.new caller (call.Rotate salt) result }
+    {
+        if !self.take_places() {
+            return DepotReply::OutOfMemory;
+        }
+        let answer = rotate(
+            &mut self.origin,
+            &mut self.kernel,
+            alloc,
+            caller,
+            salt,
+        );
+        finish(
+            &mut self.log,
+            caller,
+            DepotNoted::Rotate { salt },
+            answer,
+        )
+    }
+
+    fn reap(&mut self, caller: u32) -> DepotReply
+        ensures did { (start : Start) → IsWhole O.objects O.faults start self.old → Did O.objects O.faults start self.old self.new caller call.Reap result }
+    {
+        let answer = self.kernel.reap(caller);
+        finish(&mut self.log, caller, DepotNoted::Reap, answer)
+    }
+
+    fn apply(&mut self, alloc: Global, caller: u32, asked: DepotCall) -> DepotReply
+        ensures did { (start : Start) → IsWhole O.objects O.faults start self.old → Did O.objects O.faults start self.old self.new caller asked result }
+    {
+        match asked {
+            DepotCall::OpenImage { image } => self.open_image(caller, image),
+            DepotCall::Fetch { lease, index } => self.fetch(alloc, caller, lease, index),
+            DepotCall::Close { lease } => self.close(caller, lease),
+            DepotCall::BeginCreate { image } => self.begin_create(alloc, caller, image),
+            DepotCall::PutChunk { session, chunk } => {
+                self.put_chunk(alloc, caller, session, chunk)
+            }
+            DepotCall::PutManifest { session, manifest } => {
+                self.put_manifest(alloc, caller, session, manifest)
+            }
+            DepotCall::Abandon { session } => self.abandon(caller, session),
+            DepotCall::Rotate { salt } => self.rotate(alloc, caller, salt),
+            DepotCall::Reap => self.reap(caller),
+        }
+    }
+}
+
+/// The catalog over a store, with leases, sessions and the puts that are in doubt.
+///
+/// A contract sees the store, what the depot was started with, and the log; what it holds is what the machine makes
+/// of these two. A failed put is in doubt until the same key is put again with an answer.
+#[derive(Drop)]
+pub struct Depot<O: Origin> {
+    body: Body<O>,
+    opening: Snapshot<O>,
+    found: Snapshot<Catalog>,
+    number: Snapshot<u64>,
+}
+
+impl<O: Origin> Model for Depot<O> {
+    ghost use Rattle.std.specs.Coded.{codes};
+    ghost use Rattle.lr_manifest.specs.contracts.manifest.Manifest as manifests;
+    ghost use Rattle.lr_origin.specs.contracts.key.KeyKind as kinds;
+    ghost use Rattle.lr_depot.specs.Depot.{Seen, IsWhole};
+    ghost use Rattle.lr_depot.specs.Begun.{start_code};
+
+    ghost Value = { Seen O };
+
+    ghost coded = { Prim.hlevel (codes, start_code kinds.the_row.coded manifests.the_row.coded, O.code) };
+
+    ghost view = { λ d. record { origin = d.body.origin; start = record { objects = O.objects d.opening.value; faults = O.faults d.opening.value; view = d.found.value.view; number = d.number.value }; log = d.body.log.items } };
+
+    ghost invariant = { λ d. IsWhole O.objects O.faults (record { objects = O.objects d.opening.value; faults = O.faults d.opening.value; view = d.found.value.view; number = d.number.value }) d.body };
+}
+
+impl<O: Origin> Depot<O> {
+    ghost use Rattle.lr_depot.specs.Depot.{first_state, state, IsStarted, IsEnded};
+    ghost use Rattle.lr_depot.specs.Store.{LeadsTo, Covers};
+
+    /// A depot over a store, which is listed and read; chunks are not.
+    ///
+    /// The error hands the store back. It changes nothing.
+    pub fn start(alloc: Global, origin: O) -> Result<Depot<O>, StartError<O>>
+        ensures started { IfOk result (λ d. IsStarted O.objects O.faults origin d) }
+        ensures cause { IfErr result (λ e. IsCause (O.objects origin) (O.faults origin) (O.faults e.origin) e.cause) }
+        ensures back { IfErr result (λ e. (O.objects e.origin ≡ O.objects origin) × (O.faults origin ≤ O.faults e.origin)) }
+    {
+        let opening = Snapshot::of(&origin);
+        let mut origin = origin;
+        let catalog = match open(alloc, &mut origin) {
+            Ok(catalog) => catalog,
+            Err(cause) => return Err(StartError { cause, origin }),
+        };
+        let found = Snapshot::of(&catalog);
+        let next_number = catalog.greatest_number() + 1;
+        let number = Snapshot::of(&next_number);
+        let kernel = Kernel {
+            catalog,
+            doubts: Keys::new(alloc),
+            leases: Numbered::new(alloc),
+            sessions: Numbered::new(alloc),
+            next_lease: 1,
+            next_session: 1,
+            next_number,
+        };
+        let body = Body {
+            origin,
+            kernel,
+            log: Vec::new(alloc),
+        };
+        Ok(Depot {
+            body,
+            opening,
+            found,
+            number,
+        })
+    }
+
+    /// The view after the calls so far.
+    pub fn catalog(&self) -> &Catalog
+        ensures view { result.now.view ≡ (state self.now.start self.now.log).known.view }
+    {
+        &self.body.kernel.catalog
+    }
+
+    /// The store, what is left of the depot, and the view. It takes no memory.
+    pub fn end(self) -> (O, DepotLog, Catalog)
+        ensures ended { IsEnded O.objects O.faults self result.0 result.1 result.2 }
+    {
+        let Depot {
+            body,
+            opening: _,
+            found: _,
+            number: _,
+        } = self;
+        let Body {
+            origin,
+            kernel,
+            log,
+        } = body;
+        let Kernel {
+            catalog, doubts, ..
+        } = kernel;
+        (origin, DepotLog { log, doubts }, catalog)
+    }
+}
+
+impl<O: Origin> Object for Depot<O> {
+    ghost use Rattle.lr_depot.specs.Machine.{is_logged, DepotStep, Enters, IsShared, IsSharedEntry};
+    ghost use Rattle.lr_depot.specs.Depot.{state, IsUnchanged};
+
+    type Call = DepotCall;
+
+    type Noted = DepotNoted;
+
+    type Reply = DepotReply;
+
+    type Told = DepotTold;
+
+    type Fixed = DepotStart;
+
+    ghost log = { λ d. d.log };
+
+    ghost fixed = { λ d. d.start };
+
+    ghost unchanged = { IsUnchanged O.objects };
+
+    ghost may = { λ _. Unit {0} };
+
+    ghost opens = { IsShared };
+
+    ghost shares = { IsSharedEntry };
+
+    ghost logged = { is_logged };
+
+    ghost answers = { λ start log caller call reply. DepotStep (state start log) caller call reply };
+
+    ghost enters = { λ _ _ _ call reply e. Enters call reply e };
+
+    fn apply(&mut self, alloc: Global, caller: u32, call: DepotCall) -> DepotReply {
+        self.body.apply(alloc, caller, call)
+    }
+
+    fn entries(&self) -> u64 {
+        self.body.log.len() as u64
+    }
+
+    fn entry(&self, at: u64) -> Option<&Entry<DepotNoted, DepotTold>> {
+        self.body.log.get(at as usize)
+    }
+}
