@@ -12,3 +12,5 @@ pub mod Moved
 pub mod Stored
 pub mod Followed
 pub mod Owing
+pub mod Did
+pub mod Ending

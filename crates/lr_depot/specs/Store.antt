@@ -39,7 +39,7 @@ abbrev pub Puts : State → KeyKind → List ℕ → PutEnd → Objects → Opti
 Puts s k body end m n = StoresKey (map.get s.known.doubts k) (key_text k) body end m n
 
 -- whether a reply in the log is a fault
-abbrev tells_fault : DepotTold → Bool
+abbrev pub tells_fault : DepotTold → Bool
 tells_fault (told.Fault k) = true
 tells_fault reply = false
 

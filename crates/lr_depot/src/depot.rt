@@ -4,7 +4,8 @@ ghost use Rattle.lr_opening.specs.Cause.{IsCause};
 ghost use Rattle.lr_depot.specs.declared.call.DepotCall.TheVariants as call;
 ghost use Rattle.lr_depot.specs.Kernel.{places};
 ghost use Rattle.lr_depot.specs.Begun.{Start};
-ghost use Rattle.lr_depot.specs.Depot.{IsWhole, Did, grown};
+ghost use Rattle.lr_depot.specs.Machine.{LogEntry};
+ghost use Rattle.lr_depot.specs.Depot.{IsWhole, HasPlace, Did, grown};
 
 use crate::asking::{fetch, put_chunk, put_manifest, rotate};
 use crate::call::{DepotCall, DepotNoted, DepotReply, DepotTold};
@@ -63,7 +64,7 @@ fn finish(
 impl<O: Origin> Body<O> {
     // Takes the places in the log of a call, of a lease or session that it may begin, and of all that are out.
     fn take_places(&mut self) -> bool
-        requires few { places self.old.kernel + 2 < 2 ^ 64 }
+        requires whole { (start : Start) × IsWhole O.objects O.faults start self.old }
         ensures taken { IsTrue result → vec_len self.new.log + places self.new.kernel + 2 ≤ vec_capacity self.new.log }
         ensures items { self.new.log.items ≡ self.old.log.items }
         ensures len { vec_len self.new.log ≡ vec_len self.old.log }
@@ -75,6 +76,7 @@ impl<O: Origin> Body<O> {
     }
 
     fn open_image(&mut self, caller: u32, image: ImageName) -> DepotReply
+        requires whole { (start : Start) × IsWhole O.objects O.faults start self.old }
         ensures did { (start : Start) → IsWhole O.objects O.faults start self.old → Did O.objects O.faults start self.old self.new caller (call.OpenImage image) result }
     {
         if !self.take_places() {
@@ -90,6 +92,7 @@ impl<O: Origin> Body<O> {
     }
 
     fn fetch(&mut self, alloc: Global, caller: u32, lease: u64, index: u32) -> DepotReply
+        requires whole { (start : Start) × IsWhole O.objects O.faults start self.old }
         ensures did { (start : Start) → IsWhole O.objects O.faults start self.old → Did O.objects O.faults start self.old self.new caller (call.Fetch lease index) result }
     {
         if !self.take_places() {
@@ -113,11 +116,23 @@ impl<O: Origin> Body<O> {
 
     // A lease that is out has its place.
     fn close(&mut self, caller: u32, lease: u64) -> DepotReply
+        requires whole { (start : Start) × IsWhole O.objects O.faults start self.old }
         ensures did { (start : Start) → IsWhole O.objects O.faults start self.old → Did O.objects O.faults start self.old self.new caller (call.Close lease) result }
     {
-        if self.kernel.leases.get(lease).is_none() && !self.take_places() {
+        if self.kernel.leases.get(lease).is_some() {
+            return self.end_lease(caller, lease);
+        }
+        if !self.take_places() {
             return DepotReply::OutOfMemory;
         }
+        self.end_lease(caller, lease)
+    }
+
+    fn end_lease(&mut self, caller: u32, lease: u64) -> DepotReply
+        requires whole { (start : Start) × IsWhole O.objects O.faults start self.old }
+        requires room { vec_len self.old.log < vec_capacity self.old.log }
+        ensures did { (start : Start) → IsWhole O.objects O.faults start self.old → ((e : LogEntry) → HasPlace start self.old (call.Close lease) result e) → Did O.objects O.faults start self.old self.new caller (call.Close lease) result }
+    {
         let answer = self.kernel.close(caller, lease);
         finish(
             &mut self.log,
@@ -128,6 +143,7 @@ impl<O: Origin> Body<O> {
     }
 
     fn begin_create(&mut self, alloc: Global, caller: u32, image: ImageName) -> DepotReply
+        requires whole { (start : Start) × IsWhole O.objects O.faults start self.old }
         ensures did { (start : Start) → IsWhole O.objects O.faults start self.old → Did O.objects O.faults start self.old self.new caller (call.BeginCreate image) result }
     {
         if !self.take_places() {
@@ -149,6 +165,7 @@ impl<O: Origin> Body<O> {
         session: u64,
         chunk: Arc<Chunk>,
     ) -> DepotReply
+        requires whole { (start : Start) × IsWhole O.objects O.faults start self.old }
         ensures did { (start : Start) → IsWhole O.objects O.faults start self.old → Did O.objects O.faults start self.old self.new caller (call.PutChunk session chunk) result }
     {
         if !self.take_places() {
@@ -178,6 +195,7 @@ impl<O: Origin> Body<O> {
         session: u64,
         manifest: Arc<Manifest>,
     ) -> DepotReply
+        requires whole { (start : Start) × IsWhole O.objects O.faults start self.old }
         ensures did { (start : Start) → IsWhole O.objects O.faults start self.old → Did O.objects O.faults start self.old self.new caller (call.PutManifest session manifest) result }
     {
         if !self.take_places() {
@@ -201,11 +219,23 @@ impl<O: Origin> Body<O> {
 
     // A session that is out has its place.
     fn abandon(&mut self, caller: u32, session: u64) -> DepotReply
+        requires whole { (start : Start) × IsWhole O.objects O.faults start self.old }
         ensures did { (start : Start) → IsWhole O.objects O.faults start self.old → Did O.objects O.faults start self.old self.new caller (call.Abandon session) result }
     {
-        if creation_of(&self.kernel.sessions, session, caller).is_none() && !self.take_places() {
+        if creation_of(&self.kernel.sessions, session, caller).is_some() {
+            return self.end_session(caller, session);
+        }
+        if !self.take_places() {
             return DepotReply::OutOfMemory;
         }
+        self.end_session(caller, session)
+    }
+
+    fn end_session(&mut self, caller: u32, session: u64) -> DepotReply
+        requires whole { (start : Start) × IsWhole O.objects O.faults start self.old }
+        requires room { vec_len self.old.log < vec_capacity self.old.log }
+        ensures did { (start : Start) → IsWhole O.objects O.faults start self.old → ((e : LogEntry) → HasPlace start self.old (call.Abandon session) result e) → Did O.objects O.faults start self.old self.new caller (call.Abandon session) result }
+    {
         let answer = self.kernel.abandon(caller, session);
         finish(
             &mut self.log,
@@ -216,6 +246,7 @@ impl<O: Origin> Body<O> {
     }
 
     fn rotate(&mut self, alloc: Global, caller: u32, salt: [u8; 32]) -> DepotReply
+        requires whole { (start : Start) × IsWhole O.objects O.faults start self.old }
         ensures did { (start : Start) → IsWhole O.objects O.faults start self.old → Did O.objects O.faults start self.old self.new caller (call.Rotate salt) result }
     {
         if !self.take_places() {
@@ -237,6 +268,7 @@ impl<O: Origin> Body<O> {
     }
 
     fn reap(&mut self, caller: u32) -> DepotReply
+        requires whole { (start : Start) × IsWhole O.objects O.faults start self.old }
         ensures did { (start : Start) → IsWhole O.objects O.faults start self.old → Did O.objects O.faults start self.old self.new caller call.Reap result }
     {
         let answer = self.kernel.reap(caller);
@@ -244,6 +276,7 @@ impl<O: Origin> Body<O> {
     }
 
     fn apply(&mut self, alloc: Global, caller: u32, asked: DepotCall) -> DepotReply
+        requires whole { (start : Start) × IsWhole O.objects O.faults start self.old }
         ensures did { (start : Start) → IsWhole O.objects O.faults start self.old → Did O.objects O.faults start self.old self.new caller asked result }
     {
         match asked {
