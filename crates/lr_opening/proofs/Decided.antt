@@ -1,9 +1,12 @@
 -- What can be decided: keys of a view, lists of numbers, roots with a property.
-use Rattle.std.proofs.Common.{◌≡◌, ◌<◌, ◌≤◌, ℕ, zero, suc, arith, List, [], ◌∷◌, length, get_or, Option, Some, None, IsSome, refl, sym, ap, subst, ◌∙◌, inl, inr, All}
+use Rattle.std.proofs.Common.{◌≡◌, ◌<◌, ◌≤◌, ℕ, zero, suc, arith, List, [], ◌∷◌, length, get_or, Option, Some, None, IsSome, refl, sym, ap, subst, ◌∙◌, inl, inr, All, true, false}
 use mathlib.Core.Logic.{◌⊎◌}
 use Rattle.std.specs.FinMap as map
-use Rattle.std.specs.Cmp.Lexicographic.{slice_cmp}
-use Rattle.std.specs.Ordering.{nat_cmp}
+use Rattle.std.specs.Ordering.{eq_by_cmp}
+use Rattle.std.proofs.lemmas.Bool.{cases_Bool, false≢true}
+use Rattle.lr_origin.specs.Kind.{kind_cmp}
+use Rattle.lr_roots.proofs.Trees.{same_key}
+use Rattle.lr_roots.proofs.Aside.{itself}
 use Rattle.lr_origin.specs.declared.key.KeyKind.{KeyKind}
 use Rattle.lr_roots.specs.View.{View, Held, Has, Lacks}
 
@@ -52,6 +55,14 @@ isnt_there v k not = by (has_or_lacks v k)
     by : Has v k ⊎ Lacks v k → Lacks v k
     by (inl has) = absurd (not has)
     by (inr lacks) = lacks
+
+-- one kind, or two
+pub same_kind : (j k : KeyKind) → Decided (j ≡ k)
+same_kind j k = by (cases_Bool (eq_by_cmp kind_cmp j k))
+  where
+    by : (eq_by_cmp kind_cmp j k ≡ true) ⊎ (eq_by_cmp kind_cmp j k ≡ false) → Decided (j ≡ k)
+    by (inl e) = inl (same_key j k e)
+    by (inr f) = inr (λ e. false≢true (sym f ∙ ap (eq_by_cmp kind_cmp j) (sym e) ∙ itself j))
 
 same_number : (a b : ℕ) → Decided (a ≡ b)
 same_number a b = grind arith

@@ -2,14 +2,29 @@
 ghost use Rattle.std.specs.Prelude.{◌≡◌, ◌≤◌, ◌^◌, IfOk, IfErr, None};
 ghost use Rattle.lr_spec.specs.Told.{Told};
 ghost use Rattle.lr_roots.specs.Sound.{IsSound};
+ghost use Rattle.lr_origin.specs.Objects.{found};
 ghost use Rattle.lr_opening.specs.Store.{Mirrors};
+ghost use Rattle.lr_opening.specs.Reading.{IsForeignText};
 ghost use Rattle.lr_opening.specs.Listing.{HasFewer};
 ghost use Rattle.lr_opening.specs.Cause.{IsCause};
 
 use crate::cause::StartCause;
+use crate::listing::list;
+use crate::reading::read_all;
 use lr_origin::Origin;
 use lr_roots::Catalog;
+use lr_spec::OutOfMemory;
 use std::alloc::Global;
+
+// The text of the first foreign key of the view.
+fn foreign_text(alloc: Global, catalog: &Catalog) -> Result<Option<Vec<u8>>, OutOfMemory>
+    ensures { IfOk result (λ text. IsForeignText catalog.now.view (found text)) }
+{
+    match catalog.foreign() {
+        Some(key) => Ok(Some(key.as_bytes().to_vec(alloc)?)),
+        None => Ok(None),
+    }
+}
 
 /// Lists all keys of a store, gets every value but the chunks in key order, and checks that no key is foreign.
 ///
@@ -22,7 +37,13 @@ pub fn open<O: Origin>(alloc: Global, origin: &mut O) -> Result<Catalog, StartCa
     ensures same { O.objects origin.new ≡ O.objects origin.old }
     ensures never_falls { O.faults origin.old ≤ O.faults origin.new }
 {
-    let _ = alloc;
-    let _ = origin;
-    Err(StartCause::OutOfMemory)
+    let keys = list(alloc, origin)?;
+    let (catalog, malformed) = read_all(alloc, origin, &keys)?;
+    if let Some(text) = malformed {
+        return Err(StartCause::Foreign(text));
+    }
+    match foreign_text(alloc, &catalog)? {
+        Some(text) => Err(StartCause::Foreign(text)),
+        None => Ok(catalog),
+    }
 }
