@@ -17,15 +17,17 @@ use Rattle.lr_origin.specs.declared.key.KeyKind.{KeyKind}
 use Rattle.lr_roots.specs.View.{View, Held, Has, Lacks}
 use Rattle.lr_roots.specs.Names.{IsFirst}
 use Rattle.lr_roots.specs.Foreign.{IsForeign}
-use Rattle.lr_roots.specs.Sound.{Suits}
+use Rattle.lr_origin.specs.declared.key.KeyKind.TheVariants.{Root, Expired, Deleted, Chunk, Manifest, Withdrawn}
+use Rattle.lr_roots.specs.Sound.{Suits, IsSound}
 use Rattle.lr_roots.proofs.Aside.{get_inserted, get_beside}
 use Rattle.lr_opening.specs.declared.cause.StartCause.{StartCause}
 use Rattle.lr_opening.specs.declared.cause.StartCause.TheVariants.{Fault, Spoiled, Foreign, TooMany, OutOfMemory}
 use Rattle.lr_opening.specs.Store.{Mirrors, IsSame, IsBody, IsMalformed, IsForeignKey}
 use Rattle.lr_opening.specs.Listing.{ListsAll, bytes_of}
-use Rattle.lr_opening.specs.Reading.{AreSuited, WhenRead, IsFirstMalformed, first_of, HaveRead, AreBelow, ReadsOn, IsForeignText}
-use Rattle.lr_opening.specs.Cause.{IsCause}
-use Rattle.lr_opening.proofs.Decided.{Decided, is_some, not_none, not_both, one_inside, same_kind, isnt_there}
+use Rattle.lr_opening.specs.Reading.{HasBody, IsThere, AreListed, AreSuited, WhenRead, IsFirstMalformed, first_of, HaveRead, AreBelow, ReadsOn, IsForeignText}
+use Rattle.lr_opening.specs.Cause.{IsRead, IsCause}
+use Rattle.lr_opening.proofs.Decided.{Decided, is_some, not_none, not_both, one_inside, same_kind, isnt_there, some_of}
+use Rattle.lr_opening.proofs.Ruled.{none_foreign_is_sound}
 use Rattle.lr_opening.proofs.Views.{key_text_injective, text_itself}
 use Rattle.lr_opening.proofs.Listed.{one, the_one, below_trans, taken_below, take_more, take_all, key_at, length_bytes}
 
@@ -89,12 +91,12 @@ module _ (m : Objects) (q : List ℕ) (ks : List (List ℕ)) where
       other : (j : KeyKind) → Has v j → j ≡ k → ⊥
       other j has e = read_once (subst (Has v) e has)
 
-      IsRead : KeyKind → Type 0
-      IsRead j = IsKind j × Contains (ks ++ q ∷ []) (key_text j) × IsSame j (map.get m (key_text j)) (map.get (map.insert v k x) j)
+      IsIn : KeyKind → Type 0
+      IsIn j = IsKind j × Contains (ks ++ q ∷ []) (key_text j) × IsSame j (map.get m (key_text j)) (map.get (map.insert v k x) j)
 
-      within : (j : KeyKind) → Has (map.insert v k x) j → Decided (j ≡ k) → IsRead j
-      unfolding IsRead
-      within j has (inl e) = subst IsRead (sym e) (is, last (key_text k) (sym text), at_it)
+      within : (j : KeyKind) → Has (map.insert v k x) j → Decided (j ≡ k) → IsIn j
+      unfolding IsIn
+      within j has (inl e) = subst IsIn (sym e) (is, last (key_text k) (sym text), at_it)
       within j has (inr not) =
           let beside : map.get (map.insert v k x) j ≡ map.get v j = get_beside v k j x not in
           let h = r.within j (subst IsSome beside has) in
@@ -104,7 +106,7 @@ module _ (m : Objects) (q : List ℕ) (ks : List (List ℕ)) where
       still j has = subst IsSome (sym (get_beside v k j x (other j has))) has
 
       read_inserted : HaveRead m (ks ++ q ∷ []) (map.insert v k x) f
-      unfolding IsRead
+      unfolding IsIn
       read_inserted = record {
         within = λ j has. within j has (same_kind j k);
         each = λ p c. elim (before p c) [
@@ -204,3 +206,33 @@ cause_sooner told before middle after (Spoiled k) le c = c
 cause_sooner told before middle after (Foreign bytes) le c = c
 cause_sooner told before middle after TooMany le c = c
 cause_sooner told before middle after OutOfMemory le c = tt
+
+-- a body that isn't one of its key's kind
+pub body_malformed : (m : Objects) (q : List ℕ) (k : KeyKind) → IsKind k → q ≡ key_text k → HasBody m k None → IsMalformed m q
+body_malformed m q k is text h =
+    (h.0, ap (map.get m) text ∙ h.1, λ j held i e fits. h.2 held (subst (λ j. IsBody j held h.0) (key_text_injective j k i is (sym e ∙ text)) fits))
+
+-- all that is read but a chunk
+pub read_kind : (k : KeyKind) → ((r : ℕ) (name : List ℕ) → k ≡ Chunk r name → ⊥) → IsRead k
+read_kind (Root r) other = tt
+read_kind (Expired r) other = tt
+read_kind (Deleted r) other = tt
+read_kind (Manifest r image) other = tt
+read_kind (Withdrawn image) other = tt
+read_kind (Chunk r name) other = absurd (other r name refl)
+
+-- the cause that a listed key gives, in the words of all
+pub cause_of_key : (told now : Option Objects) (ks : List (Vec ℕ Global)) (i : ℕ) (k : Vec ℕ Global) (q : List ℕ) (before middle after : ℕ) (cause : StartCause) → i < length ks → k ≡ get_or ks i k → q ≡ k.items → now ≡ told → before ≤ middle
+    → (IsThere now q → IsCause now middle after cause) → AreListed told (bytes_of ks) → IsCause told before after cause
+cause_of_key told now ks i k q before middle after cause less at text same le h listed =
+    cause_sooner told before middle after cause le (subst (λ o. IsCause o middle after cause) same (h (λ m e. is_listed m ks i k q less at text (listed m (sym same ∙ e)))))
+
+-- and the cause that the reading of all keys gives
+pub cause_of_reading : (told now : Option Objects) (ks : List (List ℕ)) (before middle after : ℕ) (cause : StartCause) → now ≡ told → before ≤ middle → (AreListed now ks → IsCause now middle after cause) → AreListed told ks → IsCause told before after cause
+cause_of_reading told now ks before middle after cause same le h listed =
+    cause_sooner told before middle after cause le (subst (λ o. IsCause o middle after cause) same (h (λ m e. listed m (sym same ∙ e))))
+
+-- each key of the grammar, each body of its kind, and no foreign key
+pub opened_sound : (v : View) → AreSuited v → IsFirst (IsForeign v) None → IsSound v
+opened_sound v all none =
+    none_foreign_is_sound v (λ k has. let s = some_of (map.get v k) has in (all k s.0 s.1).0) (λ k x e. (all k x e).1) none
