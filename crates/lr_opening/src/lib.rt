@@ -13,3 +13,6 @@ mod reading;
 
 pub use cause::StartCause;
 pub use opening::open;
+
+#[cfg(test)]
+mod tests;
