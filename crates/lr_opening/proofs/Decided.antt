@@ -1,5 +1,5 @@
 -- What can be decided: keys of a view, lists of numbers, roots with a property.
-use Rattle.std.proofs.Common.{◌≡◌, ◌<◌, ◌≤◌, ℕ, zero, suc, arith, List, [], ◌∷◌, length, get_or, Option, Some, None, IsSome, refl, sym, ap, subst, ◌∙◌, inl, inr, All, true, false}
+use Rattle.std.proofs.Common.{◌≡◌, ◌<◌, ◌≤◌, ℕ, zero, suc, arith, List, [], ◌∷◌, get_or, Option, Some, None, IsSome, refl, sym, ap, subst, ◌∙◌, inl, inr, All, true, false}
 use mathlib.Core.Logic.{◌⊎◌}
 use Rattle.std.specs.FinMap as map
 use Rattle.std.specs.Ordering.{eq_by_cmp}

@@ -1,5 +1,5 @@
 -- One key more, and no further key.
-use Rattle.std.proofs.Common.{◌≡◌, ◌<◌, ◌+◌, ◌-◌, ℕ, zero, suc, List, [], ◌∷◌, ◌++◌, length, get_or, Option, Some, None, IsSome, Vec, refl, sym, ap, subst, ◌∙◌, inl, inr, arith, Contains, take}
+use Rattle.std.proofs.Common.{◌≡◌, ◌<◌, ◌+◌, ◌-◌, ℕ, zero, suc, List, [], ◌∷◌, ◌++◌, length, get_or, Some, None, IsSome, Vec, refl, sym, ap, subst, ◌∙◌, inl, inr, arith, Contains, take}
 use mathlib.Core.Logic.{◌⊎◌}
 use Rattle.std.specs.FinMap as fin
 use Rattle.std.specs.declared.cmp.Ordering.{Ordering}

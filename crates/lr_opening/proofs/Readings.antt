@@ -1,15 +1,13 @@
 -- One key more is read, and all are.
-use Rattle.std.proofs.Common.{◌≡◌, ◌<◌, ◌≤◌, ◌+◌, ℕ, suc, List, [], ◌∷◌, ◌++◌, length, get_or, Option, Some, None, IsSome, Bool, true, false, Vec, refl, sym, ap, subst, ◌∙◌, inl, inr, arith, Contains, take}
+use Rattle.std.proofs.Common.{◌≡◌, ◌<◌, ◌≤◌, ◌+◌, ℕ, suc, List, [], ◌∷◌, ◌++◌, length, get_or, Option, Some, None, IsSome, true, false, Vec, refl, sym, ap, subst, ◌∙◌, inl, inr, arith, Contains, take}
 use mathlib.Core.Logic.{◌⊎◌}
 use Rattle.std.specs.FinMap as map
 use Rattle.std.specs.FinMap.{get-empty}
 use Rattle.std.specs.declared.cmp.Ordering.{Ordering}
-use Rattle.std.specs.declared.cmp.Ordering.TheVariants.{Less, Equal, Greater}
+use Rattle.std.specs.declared.cmp.Ordering.TheVariants.{Less, Equal}
 use Rattle.std.specs.declared.alloc.Global.{Global}
 use Rattle.std.proofs.lemmas.List.Elements.{Contains-append_left, Contains-append_right, Contains-append_cases}
-use Rattle.std.specs.Cmp.Lexicographic.{nat_list_cmp_total}
 use Rattle.lr_spec.specs.Rose.{Rose}
-use Rattle.lr_spec.specs.Told.{Told}
 use Rattle.lr_origin.specs.Kind.{kind_cmp}
 use Rattle.lr_origin.specs.Objects.{Objects, key_cmp}
 use Rattle.lr_origin.specs.Text.{key_text, IsKind}
@@ -65,11 +63,14 @@ module _ (m : Objects) (q : List ℕ) (ks : List (List ℕ)) where
   first_comes : (f : Option (List ℕ)) → IsFirstMalformed m ks f → IsMalformed m q → AreBelow ks q → IsFirstMalformed m (ks ++ q ∷ []) (first_of f q)
   first_comes None h bad below =
       (last q refl, bad, λ p c less. elim (before p c) [ inl a ↦ h p a | inr e ↦ absurd (not_below_itself q (subst (λ p. key_cmp p q ≡ Less) e less)) ])
-  first_comes (Some first) h bad below =
-      (more first h.0, h.1, λ p c less. elim (before p c) [
-        | inl a ↦ h.2 p a less
-        | inr e ↦ absurd (not_below_itself q (below_trans q first q (subst (λ p. key_cmp p first ≡ Less) e less) (below first h.0)))
-      ])
+  first_comes (Some first) h bad below = (
+    more first h.0,
+    h.1,
+    λ p c less. elim (before p c) [
+      | inl a ↦ h.2 p a less
+      | inr e ↦ absurd (not_below_itself q (below_trans q first q (subst (λ p. key_cmp p first ≡ Less) e less) (below first h.0)))
+    ],
+  )
 
   read_malformed : (v : View) (f : Option (List ℕ)) → HaveRead m ks v f → IsMalformed m q → AreBelow ks q → HaveRead m (ks ++ q ∷ []) v (first_of f q)
   read_malformed v f r bad below = record {

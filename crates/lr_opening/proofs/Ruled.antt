@@ -1,5 +1,5 @@
 -- A view in which no key is foreign is sound, and in a sound view none is.
-use Rattle.std.proofs.Common.{◌≡◌, ◌<◌, ◌≤◌, ◌+◌, ℕ, arith, List, Option, Some, None, IsSome, refl, sym, ap, subst, ◌∙◌, inl, inr}
+use Rattle.std.proofs.Common.{◌≡◌, ◌<◌, ◌≤◌, ◌+◌, ℕ, arith, List, Some, refl, sym, ap, subst, ◌∙◌, inl, inr}
 use mathlib.Core.Logic.{◌⊎◌}
 use Rattle.std.specs.FinMap as map
 use Rattle.lr_manifest.specs.Manifest.{Fields, IsManifest, spelling}
@@ -8,10 +8,10 @@ use Rattle.lr_origin.specs.Text.{IsKind}
 use Rattle.lr_origin.specs.declared.key.KeyKind.{KeyKind}
 use Rattle.lr_origin.specs.declared.key.KeyKind.TheVariants.{Root, Expired, Deleted, Chunk, Manifest, Withdrawn}
 use Rattle.lr_roots.specs.View.{View, Held, salt, manifest, bare, Has, Lacks}
-use Rattle.lr_roots.specs.Roots.{IsLive, IsGreatest, IsHome, IsHomed, IsComplete}
+use Rattle.lr_roots.specs.Roots.{IsLive, IsHome, IsHomed, IsComplete}
 use Rattle.lr_roots.specs.Foreign.{IsGap, LacksRoot, IsOutOfOrder, IsFirstRoot, DiffersFromFirst, LacksChunk, LacksHome, Breaks, IsForeign}
 use Rattle.lr_roots.specs.Sound.{Suits, root_of, IsSound}
-use Rattle.lr_opening.proofs.Decided.{Decided, some_of, is_some, not_both, one_inside, has_or_lacks, has_not_lacks, is_there, isnt_there, same_list, greatest, least, all_stable}
+use Rattle.lr_opening.proofs.Decided.{Decided, some_of, is_some, one_inside, has_or_lacks, has_not_lacks, is_there, isnt_there, same_list, greatest, least, all_stable}
 
 module _ (v : View) (keys : (k : KeyKind) → Has v k → IsKind k) (fits : (k : KeyKind) (x : Held) → map.get v k ≡ Some x → Suits k x) (none : (k : KeyKind) → IsForeign v k → ⊥) where
   no_gap : (k : KeyKind) (r : ℕ) → Has v k → root_of k ≡ Some r → IsGap v r → ⊥

@@ -1,26 +1,23 @@
 -- A store has one view, and one that has a sound view has no foreign key.
-use Rattle.std.proofs.Common.{◌≡◌, ℕ, List, [], ◌∷◌, Option, Some, None, IsSome, refl, sym, ap, subst, ◌∙◌, inl, inr}
-use mathlib.Core.Logic.{◌⊎◌}
+use Rattle.std.proofs.Common.{◌≡◌, ℕ, List, Option, Some, None, refl, sym, ap, subst, ◌∙◌, inl, inr}
 use Rattle.std.specs.declared.cmp.Ordering.{Ordering}
 use Rattle.std.specs.declared.cmp.Ordering.TheVariants.{Less, Equal, Greater}
 use Rattle.std.specs.Ordering.{ordering_reverse}
-use Rattle.std.specs.Cmp.{IsTotalOrder}
-use Rattle.std.specs.Cmp.Lexicographic.{slice_cmp, nat_list_cmp_total}
+use Rattle.std.specs.Cmp.Lexicographic.{nat_list_cmp_total}
 use Rattle.std.specs.FinMap as map
 use Rattle.std.specs.FinMap.{same_map}
-use Rattle.lr_manifest.specs.Manifest.{Fields, spelling}
 use Rattle.lr_manifest.proofs.Unique.{unique}
-use Rattle.lr_origin.specs.Kind.{kind_cmp, kind_total, kind_exact}
+use Rattle.lr_origin.specs.Kind.{kind_total, kind_exact}
 use Rattle.lr_origin.specs.Objects.{Objects, key_cmp}
 use Rattle.lr_origin.specs.Text.{key_text, IsKind}
 use Rattle.lr_origin.specs.declared.key.KeyKind.{KeyKind}
 use Rattle.lr_origin.specs.declared.key.KeyKind.TheVariants.{Root, Expired, Deleted, Chunk, Manifest, Withdrawn}
 use Rattle.lr_origin.proofs.TextOrder.{order_is_text}
-use Rattle.lr_roots.specs.View.{View, Held, salt, manifest, bare, Has, Lacks}
+use Rattle.lr_roots.specs.View.{View, Held, salt, manifest, bare}
 use Rattle.lr_roots.specs.Foreign.{IsForeign}
-use Rattle.lr_roots.specs.Sound.{Suits, IsSound}
-use Rattle.lr_opening.specs.Store.{Mirrors, IsBody, IsSame, body_of, IsMalformed, IsForeignKey}
-use Rattle.lr_opening.proofs.Decided.{is_some, not_none, some_of}
+use Rattle.lr_roots.specs.Sound.{IsSound}
+use Rattle.lr_opening.specs.Store.{Mirrors, IsBody, IsSame, IsMalformed, IsForeignKey}
+use Rattle.lr_opening.proofs.Decided.{is_some}
 use Rattle.lr_opening.proofs.Ruled.{sound_has_none_foreign}
 
 same_reversed : (o : Ordering) → o ≡ ordering_reverse o → o ≡ Equal

@@ -65,7 +65,11 @@ fn kept_nothing(body: &[u8]) -> Option<Kept>
 ///
 /// A salt has 32 bytes. A manifest parses, was made in a root from 1 to its own, and its creation number is from 1
 /// to 9,223,372,036,854,775,807. A chunk may have any body, and every other body is empty.
-pub(crate) fn kept_of(alloc: Global, kind: &KeyKind, body: &[u8]) -> Result<Option<Kept>, OutOfMemory>
+pub(crate) fn kept_of(
+    alloc: Global,
+    kind: &KeyKind,
+    body: &[u8],
+) -> Result<Option<Kept>, OutOfMemory>
     ensures { IfOk result (λ kept. IsKeptOf kind.now body.now kept) }
 {
     match *kind {

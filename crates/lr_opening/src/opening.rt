@@ -26,9 +26,12 @@ fn foreign_text(alloc: Global, catalog: &Catalog) -> Result<Option<Vec<u8>>, Out
     }
 }
 
-/// Lists all keys of a store, gets every value but the chunks in key order, and checks that no key is foreign.
+/// Opens a store: lists all keys, gets the value of each but the chunks in key order, and checks that no key is
+/// foreign. The catalog has every key of the store.
 ///
-/// It changes nothing. A fault and a spoiled key stop it at once; a foreign key is told when all was read.
+/// It changes nothing. `Fault` and `Spoiled` stop it at once, `TooMany` at 4,294,967,296 keys. `Foreign` comes when all
+/// was read: with the first key that is outside the grammar or whose body isn't one of its kind, or where there is
+/// none, with the first that breaks a rule of `Catalog::foreign`.
 pub fn open<O: Origin>(alloc: Global, origin: &mut O) -> Result<Catalog, StartCause>
     ensures sound { IfOk result (λ catalog. IsSound catalog.view) }
     ensures whole { IfOk result (λ catalog. Told (O.objects origin.old) (λ m. Mirrors m catalog.view × HasFewer m (2 ^ 32))) }

@@ -1,5 +1,7 @@
 use crate::{StartCause, open};
-use lr_origin::{Fail as Failure, ImageName, MemOrigin, Op, Origin, OriginError, OriginFailed, Put};
+use lr_origin::{
+    Fail as Failure, ImageName, MemOrigin, Op, Origin, OriginError, OriginFailed, Put,
+};
 use std::alloc::Global;
 use std::test::Fail;
 
@@ -103,7 +105,10 @@ fn the_first_key_that_breaks_a_rule_is_foreign(rt: HostRuntime) -> Result<(), Fa
     // image has an expired home.
     let cases: [(&[(&[u8], Body)], &[u8]); 6] = [
         (&[(ROOT_2, SALT)], ROOT_2),
-        (&[(ROOT_1, SALT), (ROOT_2, SALT), (DELETED_1, NOTHING)], DELETED_1),
+        (
+            &[(ROOT_1, SALT), (ROOT_2, SALT), (DELETED_1, NOTHING)],
+            DELETED_1,
+        ),
         (&[(ROOT_1, SALT), (EXPIRED_1, NOTHING)], EXPIRED_1),
         (
             &[

@@ -1,7 +1,6 @@
-use Rattle.std.proofs.Common.{◌++◌, ◌∷◌, [], Some, None, refl, sym, subst, ◌∙◌, arith, ◌≡◌}
-use Rattle.lr_spec.specs.Told.{Told}
+use Rattle.std.proofs.Common.{Some, None, refl, sym, subst, ◌∙◌, arith}
 use Rattle.lr_origin.specs.Objects.{IsNext, pointed}
-use Rattle.lr_opening.specs.Listing.{Lists, last_of, bytes_of}
+use Rattle.lr_opening.specs.Listing.{Lists, bytes_of}
 use Rattle.lr_opening.proofs.Listed.{lists_none, lists_all, lists_more}
 use Rattle.lr_opening.proofs.listing.list.Goals as goal
 

@@ -1,10 +1,9 @@
-use Rattle.std.proofs.Common.{◌≡◌, ◌<◌, ◌^◌, ℕ, List, Vec, Option, Some, None, length, refl, sym, ap, subst, ◌∙◌, arith}
+use Rattle.std.proofs.Common.{◌<◌, ◌^◌, ℕ, List, Vec, Option, Some, None, length, sym, ap, subst, ◌∙◌, arith}
 use Rattle.std.specs.declared.alloc.Global.{Global}
 use Rattle.std.proofs.lemmas.Result.{err_from_is_err_and}
 use Rattle.lr_origin.specs.Objects.{found}
 use Rattle.lr_roots.specs.Names.{IsFirst}
 use Rattle.lr_roots.specs.Foreign.{IsForeign}
-use Rattle.lr_opening.specs.Store.{Mirrors}
 use Rattle.lr_opening.specs.Listing.{ListsAll, bytes_of}
 use Rattle.lr_opening.specs.Reading.{AreListed, HaveRead, IsForeignText}
 use Rattle.lr_opening.proofs.Listed.{length_bytes}

@@ -1,4 +1,4 @@
-use Rattle.std.proofs.Common.{◌+◌, ◌-◌, ◌^◌}
+use Rattle.std.proofs.Common.{◌-◌, ◌^◌}
 use Rattle.lr_roots.specs.Keys.{plain}
 use Rattle.lr_opening.proofs.Names.{fewer_inserted}
 use Rattle.lr_opening.proofs.reading.put_in.Goals as goal

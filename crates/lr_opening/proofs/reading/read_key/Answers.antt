@@ -1,4 +1,4 @@
-use Rattle.std.proofs.Common.{◌≡◌, ◌+◌, ℕ, Option, Some, None, IsSome, refl, sym, ap, subst}
+use Rattle.std.proofs.Common.{◌+◌, Option, None, IsSome, refl, sym, ap, subst}
 use Rattle.std.specs.Option.{IfSome}
 use Rattle.std.specs.FinMap as map
 use Rattle.lr_origin.specs.Text.{key_text}
