@@ -1,5 +1,3 @@
-ghost use Rattle.std.specs.Prelude.{◌≡◌};
-
 use lr_origin::Key;
 use lr_spec::OutOfMemory;
 

@@ -13,8 +13,8 @@ use std::alloc::Global;
 /// A store with this many keys isn't opened.
 const KEYS_MAX: u64 = 4_294_967_296;
 
-fn last_key(keys: &Vec<Vec<u8>>) -> Option<&[u8]>
-    ensures { pointed result ≡ last_of (bytes_of keys.now.items) }
+fn last_key(keys: &[Vec<u8>]) -> Option<&[u8]>
+    ensures { pointed result ≡ last_of (bytes_of keys.now) }
 {
     match keys.last() {
         Some(key) => Some(key.as_slice()),
