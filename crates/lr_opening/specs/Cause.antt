@@ -1,5 +1,5 @@
 -- Why a store wasn't opened.
-use Rattle.std.specs.Prelude.{◌≡◌, ◌^◌, ℕ, Option, Some, None, IsSome, ⊤}
+use Rattle.std.specs.Prelude.{◌^◌, ℕ, Option, Some, None, IsSome, ⊤}
 use Rattle.std.specs.FinMap as map
 use Rattle.lr_spec.specs.Rose.{Rose}
 use Rattle.lr_spec.specs.Told.{Told}

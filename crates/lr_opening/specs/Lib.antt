@@ -1,3 +1,4 @@
 pub mod Store
 pub mod Listing
+pub mod Reading
 pub mod Cause

@@ -7,7 +7,7 @@ use Rattle.lr_manifest.specs.Manifest.{spelling}
 use Rattle.lr_origin.specs.Objects.{Objects, key_cmp}
 use Rattle.lr_origin.specs.Text.{key_text, IsKind}
 use Rattle.lr_origin.specs.declared.key.KeyKind.{KeyKind}
-use Rattle.lr_origin.specs.declared.key.KeyKind.TheVariants.{Root, Expired, Deleted, Chunk, Manifest, Withdrawn}
+use Rattle.lr_origin.specs.declared.key.KeyKind.TheVariants.{Chunk}
 use Rattle.lr_roots.specs.View.{View, Held, salt, manifest, bare, Has}
 use Rattle.lr_roots.specs.Names.{IsFirst}
 use Rattle.lr_roots.specs.Foreign.{IsForeign}

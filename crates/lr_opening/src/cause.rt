@@ -1,4 +1,5 @@
 use lr_origin::Key;
+use lr_spec::OutOfMemory;
 
 /// Why a store wasn't opened.
 #[derive(Drop)]
@@ -12,4 +13,15 @@ pub enum StartCause {
     /// There are 4,294,967,296 keys or more.
     TooMany,
     OutOfMemory,
+}
+
+impl From<OutOfMemory> for StartCause {
+    ghost use Rattle.std.specs.Prelude.{◌≡◌};
+    ghost use Rattle.lr_opening.specs.declared.cause.StartCause.TheVariants.{OutOfMemory as NoMemory};
+
+    ghost from_gives = { λ _ cause. cause ≡ NoMemory };
+
+    fn from(_: OutOfMemory) -> Self {
+        StartCause::OutOfMemory
+    }
 }

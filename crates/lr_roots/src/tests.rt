@@ -81,10 +81,15 @@ fn has_room(catalog: &Catalog) -> bool
     true
 }
 
-fn add(alloc: Global, catalog: &mut Catalog, text: &[u8]) -> Result<(), Fail> {
-    let Some(key) = Key::parse(text) else {
-        return Err("a key was refused".into());
-    };
+fn key(text: &[u8]) -> Result<Key, Fail> {
+    match Key::parse(text) {
+        Some(key) => Ok(key),
+        None => Err("a key was refused".into()),
+    }
+}
+
+fn prepare(alloc: Global, catalog: &mut Catalog, text: &[u8]) -> Result<(), Fail> {
+    let key = key(text)?;
     if catalog.has(&key) {
         return Ok(());
     }
@@ -93,14 +98,14 @@ fn add(alloc: Global, catalog: &mut Catalog, text: &[u8]) -> Result<(), Fail> {
     }
     let body = body(alloc, key.kind())?;
     catalog.prepare(alloc, key, body)?;
-    catalog.accept();
     Ok(())
 }
 
 fn store(alloc: Global, keys: &[&[u8]]) -> Result<Catalog, Fail> {
     let mut catalog = Catalog::new(alloc);
-    for key in keys {
-        add(alloc, &mut catalog, key)?;
+    for text in keys {
+        prepare(alloc, &mut catalog, text)?;
+        catalog.accept();
     }
     Ok(catalog)
 }
@@ -170,5 +175,36 @@ fn a_small_store_is_described(rt: HostRuntime) -> Result<(), Fail> {
     let last = catalog.next_key(1, next);
     assert!(rt; last.is_some_and(|key| key.as_bytes() == A_IN_1));
     assert!(rt; catalog.next_key(1, last).is_none());
+    Ok(())
+}
+
+#[test]
+fn keys_come_and_go(rt: HostRuntime) -> Result<(), Fail> {
+    let a = image(b"a")?;
+    let c = image(b"c")?;
+    let made = manifest(rt.alloc(), 1)?;
+    let keys: [&[u8]; 4] = [ROOT_1, CHUNK_1, A_IN_1, NO_C];
+    let mut catalog = store(rt.alloc(), &keys)?;
+    prepare(rt.alloc(), &mut catalog, NO_A)?;
+    catalog.forget();
+    assert!(rt; catalog.salt(1) == Some(&[1u8; 32]));
+    assert!(rt; !catalog.withdrawn(&a));
+    assert!(rt; catalog.withdrawn(&c));
+    // A key that is removed, and then: whether root 1 has a salt, the first chunk of the manifest that isn't there,
+    // whether the images are named.
+    let removed: [(&[u8], bool, Option<u32>, bool, bool); 5] = [
+        (NO_A, true, None, true, true),
+        (CHUNK_1, true, Some(0), true, true),
+        (NO_C, true, Some(0), true, false),
+        (A_IN_1, true, Some(0), false, false),
+        (ROOT_1, false, Some(0), false, false),
+    ];
+    for (text, salted, missing, a_named, c_named) in removed {
+        catalog.remove(&key(text)?);
+        assert!(rt; catalog.salt(1).is_some() == salted);
+        assert!(rt; catalog.missing(1, &made) == missing);
+        assert!(rt; catalog.is_named(&a) == a_named);
+        assert!(rt; catalog.is_named(&c) == c_named);
+    }
     Ok(())
 }
