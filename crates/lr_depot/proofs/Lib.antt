@@ -12,3 +12,6 @@ pub mod Moved
 pub mod Stored
 pub mod Followed
 pub mod Owing
+pub mod Places
+pub mod NextNumbers
+pub mod Whole
