@@ -20,10 +20,10 @@ use Rattle.lr_depot.specs.declared.call.DepotCall.TheVariants.{Close, Abandon, R
 use Rattle.lr_depot.specs.declared.call.DepotNoted.{DepotNoted}
 use Rattle.lr_depot.specs.declared.call.DepotNoted.TheVariants as noted
 use Rattle.lr_depot.specs.declared.call.DepotReply.{DepotReply}
-use Rattle.lr_depot.specs.declared.call.DepotReply.TheVariants.{NoLease, Closed, NoSession, Abandoned, Reaped, Nothing, OutOfMemory}
+use Rattle.lr_depot.specs.declared.call.DepotReply.TheVariants.{NoImage, Opened, NoLease, NoChunk, Fetched, Closed, NoRoot, Taken, Doubt, Full, Began, NoSession, Kept, Nonce, Missing, Made, Abandoned, RootsEnd, Rotated, Reaped, Nothing, Fault, Spoiled, OutOfMemory}
 use Rattle.lr_depot.specs.declared.call.DepotTold.{DepotTold}
 use Rattle.lr_depot.specs.declared.call.DepotTold.TheVariants as told
-use Rattle.lr_depot.specs.Machine.{LogEntry, DepotStep, HasNone, state_after, after_entry, manifest_put, IsTold, Enters}
+use Rattle.lr_depot.specs.Machine.{LogEntry, DepotStep, state_after, after_entry, manifest_put, IsNoted, IsTold, Enters}
 use Rattle.lr_depot.specs.Sessions.{without_caller}
 use Rattle.lr_depot.proofs.Numbers.{listed, shorter}
 use Rattle.lr_depot.proofs.Begun.{without_removed, without_none}
@@ -145,3 +145,110 @@ module _ (s : State) (c : ℕ) where
 
 pub places_more : (s : State) (e : LogEntry) → held (after_entry s e) ≤ held s + 1
 places_more s e = held_more s e.caller e.call e.reply
+
+-- what the log keeps of such a reply tells that leases or sessions ended
+abbrev pub IsEnd : DepotTold → Type 0
+IsEnd told.Closed = Unit {0}
+IsEnd told.Abandoned = Unit {0}
+IsEnd told.Reaped = Unit {0}
+IsEnd t = ⊥
+
+some_of : {X : Type 0} (o : Option X) → IsSome o → (x : X) × (o ≡ Some x)
+some_of {X = X} None some = absurd (no_some {X = X} None refl some)
+some_of (Some x) some = (x, refl)
+
+module _ (s : State) (c : ℕ) where
+  pub close_one : (lease : ℕ) → IsSome (map.get s.desk.leases lease) → held (state_after s c (noted.Close lease) told.Closed) + 1 ≤ held s
+  close_one lease out =
+      let is : (l : List ℕ × Fields) × (map.get s.desk.leases lease ≡ Some l) = some_of (map.get s.desk.leases lease) out in
+      let less : map.len (map.remove s.desk.leases lease) < map.len s.desk.leases = shorter s.desk.leases lease is.0 is.1 in
+      omega (arith, less)
+
+  pub abandon_one : (n : ℕ) (j : Job) → Holds s n c j → held (state_after s c (noted.Abandon n) told.Abandoned) + 1 ≤ held s
+  abandon_one n j holds =
+      let less : map.len (map.remove s.desk.sessions n) < map.len s.desk.sessions = shorter s.desk.sessions n (record { caller = c; job = j }) holds in
+      omega (arith, less)
+
+  pub reap_some : (n : ℕ) (j : Session) → map.get s.desk.sessions n ≡ Some j → j.caller ≡ c → held (state_after s c noted.Reap told.Reaped) + 1 ≤ held s
+  reap_some n j is own =
+      let less : map.len (without_caller c s.desk.sessions) < map.len s.desk.sessions = others_less c s.desk.sessions n j is own in
+      omega (arith, less)
+
+  abbrev IsLess : DepotNoted → DepotTold → Type 0
+  IsLess n t = held (state_after s c n t) + 1 ≤ held s
+
+  -- the entry that stands for another one
+  as_less : (n m : DepotNoted) (t u : DepotTold) → n ≡ m → t ≡ u → IsLess m u → IsLess n t
+  as_less n m t u e f less = subst (λ n. IsLess n t) (sym e) (subst (λ t. IsLess m t) (sym f) less)
+
+  -- A lease that is out ends with each entry of its close.
+  pub close_less : (lease : ℕ) (reply : DepotReply) (t : DepotTold) → IsSome (map.get s.desk.leases lease) → DepotStep s c (Close lease) reply → IsTold reply t → IsLess (noted.Close lease) t
+  close_less lease Closed t out step tells = as_less (noted.Close lease) (noted.Close lease) t told.Closed refl tells (close_one lease out)
+  close_less lease NoLease t out step tells = absurd (no_some _ step out)
+  close_less lease OutOfMemory t out step tells = absurd tells
+  close_less lease reply t out step tells = absurd step
+
+  -- So does a session of the caller with each entry of its abandonment,
+  pub abandon_less : (n : ℕ) (j : Job) (reply : DepotReply) (t : DepotTold) → Holds s n c j → DepotStep s c (Abandon n) reply → IsTold reply t → IsLess (noted.Abandon n) t
+  abandon_less n j Abandoned t holds step tells = as_less (noted.Abandon n) (noted.Abandon n) t told.Abandoned refl tells (abandon_one n j holds)
+  abandon_less n j NoSession t holds step tells = absurd (step j holds)
+  abandon_less n j OutOfMemory t holds step tells = absurd tells
+  abandon_less n j reply t holds step tells = absurd step
+
+  -- and some session with each entry of a reaping.
+  pub reap_less : (reply : DepotReply) (t : DepotTold) → DepotStep s c Reap reply → IsTold reply t → IsLess noted.Reap t
+  reap_less Reaped t step tells = as_less noted.Reap noted.Reap t told.Reaped refl tells (reap_some step.0 step.1 step.2 step.3)
+  reap_less Nothing t step tells = absurd tells
+  reap_less reply t step tells = absurd step
+
+  other_end : (t u : DepotTold) → t ≡ u → IsEnd t → IsEnd u
+  other_end t u e q = subst IsEnd e q
+
+  opened_end : (lease : ℕ) (m : _) (t : DepotTold) → IsTold (Opened lease m) t → IsEnd t → ⊥
+  opened_end lease m (told.Opened other p) tells q = q
+  opened_end lease m t tells q = absurd tells
+
+  fetched_end : (chunk : _) (t : DepotTold) → IsTold (Fetched chunk) t → IsEnd t → ⊥
+  fetched_end chunk (told.Fetched name) tells q = q
+  fetched_end chunk t tells q = absurd tells
+
+  ends_less : (call : DepotCall) (reply : DepotReply) (n : DepotNoted) (t : DepotTold) → DepotStep s c call reply → IsNoted call n → IsTold reply t → IsEnd t → IsLess n t
+  ends_less (Close lease) Closed n t step kept tells q = as_less n (noted.Close lease) t told.Closed kept tells (close_one lease step)
+  ends_less (Abandon i) Abandoned n t step kept tells q = as_less n (noted.Abandon i) t told.Abandoned kept tells (abandon_one i step.0 step.1)
+  ends_less Reap Reaped n t step kept tells q = as_less n noted.Reap t told.Reaped kept tells (reap_some step.0 step.1 step.2 step.3)
+  ends_less call NoImage n t step kept tells q = absurd (other_end t told.NoImage tells q)
+  ends_less call (Opened lease m) n t step kept tells q = absurd (opened_end lease m t tells q)
+  ends_less call NoLease n t step kept tells q = absurd (other_end t told.NoLease tells q)
+  ends_less call NoChunk n t step kept tells q = absurd (other_end t told.NoChunk tells q)
+  ends_less call (Fetched chunk) n t step kept tells q = absurd (fetched_end chunk t tells q)
+  ends_less call NoRoot n t step kept tells q = absurd (other_end t told.NoRoot tells q)
+  ends_less call Taken n t step kept tells q = absurd (other_end t told.Taken tells q)
+  ends_less call (Doubt k) n t step kept tells q = absurd (other_end t (told.Doubt k) tells q)
+  ends_less call Full n t step kept tells q = absurd (other_end t told.Full tells q)
+  ends_less call (Began session root bytes number) n t step kept tells q = absurd (other_end t (told.Began session root bytes number) tells q)
+  ends_less call NoSession n t step kept tells q = absurd (other_end t told.NoSession tells q)
+  ends_less call Kept n t step kept tells q = absurd (other_end t told.Kept tells q)
+  ends_less call Nonce n t step kept tells q = absurd (other_end t told.Nonce tells q)
+  ends_less call (Missing i) n t step kept tells q = absurd (other_end t (told.Missing i) tells q)
+  ends_less call (Made r) n t step kept tells q = absurd (other_end t (told.Made r) tells q)
+  ends_less call RootsEnd n t step kept tells q = absurd (other_end t told.RootsEnd tells q)
+  ends_less call (Rotated r) n t step kept tells q = absurd (other_end t (told.Rotated r) tells q)
+  ends_less call (Fault k) n t step kept tells q = absurd (other_end t (told.Fault k) tells q)
+  ends_less call (Spoiled k) n t step kept tells q = absurd (other_end t (told.Spoiled k) tells q)
+  ends_less call Nothing n t step kept tells q = absurd tells
+  ends_less call OutOfMemory n t step kept tells q = absurd tells
+  ends_less call reply n t step kept tells q = absurd step
+
+module _ (s : State) (e : LogEntry) (call : DepotCall) (reply : DepotReply) (step : DepotStep s e.caller call reply) (enters : Enters call reply e) where
+  -- An entry that tells of an end takes at least one out.
+  pub places_less : IsEnd e.reply → held (after_entry s e) + 1 ≤ held s
+  places_less q = ends_less s e.caller call reply e.call e.reply step enters.noted enters.told q
+
+  pub closed_less : e.reply ≡ told.Closed → held (after_entry s e) + 1 ≤ held s
+  closed_less is = places_less (subst IsEnd (sym is) tt)
+
+  pub abandoned_less : e.reply ≡ told.Abandoned → held (after_entry s e) + 1 ≤ held s
+  abandoned_less is = places_less (subst IsEnd (sym is) tt)
+
+  pub reaped_less : e.reply ≡ told.Reaped → held (after_entry s e) + 1 ≤ held s
+  reaped_less is = places_less (subst IsEnd (sym is) tt)
