@@ -23,13 +23,13 @@ use Rattle.lr_depot.specs.declared.kernel.Answer.{Answer}
 use Rattle.lr_depot.specs.Begun.{Start}
 use Rattle.lr_depot.specs.Machine.{LogEntry, DepotStep, Enters, IsNoted, IsTold, IsShared, IsSharedEntry, state_after, after_entry, run, is_logged}
 use Rattle.lr_depot.specs.Store.{StoreStep, IsRun, LeadsTo, IsFault, is_fault, tells_fault, Covers}
-use Rattle.lr_depot.specs.Kernel.{IsOf, IsReady, Moves, MovesBy, Serves, state_of, places}
-use Rattle.lr_depot.specs.Depot.{IsWhole, Did, IsStart, first_state, state, grown}
+use Rattle.lr_depot.specs.Kernel.{IsOf, IsReady, Moves, MovesBy, Serves, state_of, held, places}
+use Rattle.lr_depot.specs.Depot.{IsWhole, HasPlace, Did, IsStart, first_state, state, grown}
 use Rattle.lr_depot.proofs.Logged.{run_more, is_run_more, leads_more, store_tells, covers_fault, covers_more}
 use Rattle.lr_depot.proofs.Moved.{run_safe, run_room}
 use Rattle.lr_depot.proofs.NextNumbers.{next_more}
 use Rattle.lr_depot.proofs.Whole.{of_state, ready_of, of_places}
-use Rattle.lr_depot.proofs.Places.{held, places_more}
+use Rattle.lr_depot.proofs.Places.{places_more}
 
 match_true : (b : Bool) (P Q : Type 0) → b ≡ true → P → MatchBool b P Q
 match_true b P Q e p = subst (λ b. MatchBool b P Q) (sym e) p
@@ -147,7 +147,7 @@ module _ {O : Type 0} (objects : O → Option Objects) (faults : O → ℕ) (sta
   module _ (old new : Body O) (c : ℕ) (call : DepotCall) (noted : DepotNoted) (reply : DepotReply) (w : IsWhole objects faults start old)
       (store : Told (objects old.origin) (λ m. StoreStep (state start old.log.items) c call reply m (objects new.origin)))
       (falls : faults old.origin ≤ faults new.origin) (capacity : vec_capacity new.log ≡ vec_capacity old.log)
-      (fit : (e : LogEntry) → DepotStep (state start old.log.items) e.caller call reply → Enters call reply e → held (after_entry (state start old.log.items) e) + 1 + vec_len old.log ≤ vec_capacity old.log) where
+      (fit : (e : LogEntry) → HasPlace start old call reply e) where
     -- a reply that the log doesn't keep
     did_unlogged : DepotStep (state start old.log.items) c call reply → is_logged reply ≡ false → IsOf new.kernel (state start old.log.items) → new.log.items ≡ old.log.items → Did objects faults start old new c call reply
     did_unlogged step off hold same = record {
@@ -211,7 +211,7 @@ module _ {O : Type 0} (objects : O → Option Objects) (faults : O → ℕ) (sta
         after = ap (state start) same ∙ run_more (first_state start) old.log.items e
 
         next : ((state_after (state start old.log.items) c noted t).desk.next_lease ≤ (state start old.log.items).desk.next_lease + 1) × ((state_after (state start old.log.items) c noted t).desk.next_session ≤ (state start old.log.items).desk.next_session + 1)
-        next = next_more (state start old.log.items) e call reply step enters (whole_safe old w)
+        next = next_more (state start old.log.items) e
 
         lens : vec_len new.log ≡ vec_len old.log + 1
         lens = new.log.ok.0 ∙ ap length same ∙ length-append old.log.items (e ∷ []) ∙ ap (λ n. n + 1) (sym old.log.ok.0)
@@ -271,5 +271,5 @@ module _ {O : Type 0} (objects : O → Option Objects) (faults : O → ℕ) (sta
         → new.log.items ≡ grown mid.log.items c noted answer.told → Did objects faults start old new c call reply
     did_taken new c call noted reply answer taken capacity serves is store falls cause notes shares same =
         did_back new c call reply (did mid new c call noted reply taken_whole store falls capacity
-            (λ e step enters. omega (arith, taken, places_more (state start mid.log.items) e call reply step enters, of_places mid.kernel (state start mid.log.items) taken_whole.held))
+            (λ e step enters. omega (arith, taken, places_more (state start mid.log.items) e, of_places mid.kernel (state start mid.log.items) taken_whole.held))
             answer (whole_moves mid new.kernel c call noted answer taken_whole serves) is notes shares cause same)

@@ -10,7 +10,7 @@ use Rattle.lr_depot.specs.declared.call.DepotReply.TheVariants.{NoImage, Opened,
 use Rattle.lr_depot.specs.declared.call.DepotTold.{DepotTold}
 use Rattle.lr_depot.specs.declared.call.DepotTold.TheVariants as told
 use Rattle.lr_depot.specs.Machine.{LogEntry, DepotStep, Enters, state_after, after_entry}
-use Rattle.lr_depot.specs.Depot.{held}
+use Rattle.lr_depot.specs.Kernel.{held}
 use Rattle.lr_depot.proofs.Places.{close_one, abandon_one, reap_some}
 
 -- an entry of this call and reply

@@ -14,3 +14,6 @@ pub mod Followed
 pub mod Owing
 pub mod Did
 pub mod Ending
+pub mod Places
+pub mod NextNumbers
+pub mod Whole

@@ -41,7 +41,7 @@ use Rattle.lr_depot.proofs.Digests.{digest_kind}
 use Rattle.lr_depot.proofs.Numbers.{get_retained}
 
 -- what is left of a table was there
-left_in : {X : Type 0} (m : FinMap nat_cmp X) (n k : ℕ) (x : X) → map.get (map.remove m n) k ≡ Some x → map.get m k ≡ Some x
+pub left_in : {X : Type 0} (m : FinMap nat_cmp X) (n k : ℕ) (x : X) → map.get (map.remove m n) k ≡ Some x → map.get m k ≡ Some x
 left_in {X = X} m n k x e = by (cases_n k n)
   where
     by : (k ≡ n) ⊎ (k ≢ n) → map.get m k ≡ Some x

@@ -18,7 +18,7 @@ use Rattle.lr_depot.specs.Begun.{Start}
 use Rattle.lr_depot.specs.declared.depot.Body.{Body}
 use Rattle.lr_depot.specs.Machine.{LogEntry, DepotStep, Enters, IsShared, IsSharedEntry, after_entry, run, is_logged}
 use Rattle.lr_depot.specs.Store.{IsRun, LeadsTo, Covers}
-use Rattle.lr_depot.specs.Kernel.{IsOf, places}
+use Rattle.lr_depot.specs.Kernel.{IsOf, held, places}
 use Rattle.lr_depot.specs.Left.{Left}
 
 -- A depot: the store, what the depot was started with, and the log.
@@ -58,10 +58,6 @@ pub record IsWhole {O : Type 0} (objects : O → Option Objects) (faults : O →
   pub leases : (state start body.log.items).desk.next_lease ≤ vec_len body.log + 1
   pub sessions : (state start body.log.items).desk.next_session ≤ vec_len body.log + 1
   pub places : vec_len body.log + places body.kernel ≤ vec_capacity body.log
-
--- so many leases and sessions are out
-abbrev pub held : State → ℕ
-held s = map.len s.desk.leases + map.len s.desk.sessions
 
 -- The log has a place for this entry of a call, beside those of what is out afterwards.
 abbrev pub HasPlace : {O : Type 0} → Start → Body O → DepotCall → DepotReply → LogEntry → Type 0

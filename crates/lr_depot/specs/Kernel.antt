@@ -39,6 +39,9 @@ pub record IsOf (kernel : Kernel) (s : State) : Type 0 where
   pub next_number : kernel.next_number ≡ s.desk.next_number
 
 -- so many leases and sessions are out
+abbrev pub held : State → ℕ
+held s = map.len s.desk.leases + map.len s.desk.sessions
+
 abbrev pub places : Kernel → ℕ
 places kernel = map.len kernel.leases + map.len kernel.sessions
 
