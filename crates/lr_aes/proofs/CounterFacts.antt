@@ -1,44 +1,58 @@
--- One byte more in counter mode.
-use Rattle.std.proofs.Common.{◌≡◌, ◌≢◌, ℕ, ◌+◌, ◌-◌, ◌*◌, ◌/◌, ◌%◌, ◌^◌, ◌<◌, ◌≤◌, List, length, set, slice_index, bit_xor, refl, sym, ap, subst, ◌∙◌, arith, below_more, get_or-set_other, get_or-set_same}
-use Rattle.std.specs.Int.{w128, from_be_bytes, to_be_bytes}
+-- A block more in counter mode.
+use Rattle.std.proofs.Common.{◌≡◌, ℕ, ◌+◌, ◌-◌, ◌*◌, ◌/◌, ◌%◌, ◌^◌, ◌<◌, ◌≤◌, List, length, slice_index, bit_xor, sym, ap, subst, ◌∙◌, arith, inl, inr}
+use Rattle.std.proofs.lemmas.Bool.{cases_lt}
+use Rattle.std.proofs.lemmas.Simd.{length-zip2, get_or-zip2, length-chunk, get_or-chunk, length-put_chunk, get_or-put_chunk_below, get_or-put_chunk_at, get_or-put_chunk_above}
+use Rattle.std.specs.Simd.Lanes.{zip2, chunk, put_chunk}
 use Rattle.lr_aes.specs.Counter.{counter_at, stream_byte}
+use Rattle.lr_aes.specs.Lanes.{IsAdded}
 
--- the key block and the counter of byte i
-pub record Ready (e : List ℕ → List ℕ) (first : List ℕ) (i counter : ℕ) (pad : List ℕ) : Type 0 where
-  pub block : pad ≡ e (counter_at first (i / 16))
-  pub count : counter ≡ (from_be_bytes w128 first + (i + 1 + 15) / 16) % 2 ^ 128
-
-wraps : (f q c : ℕ) → c ≡ (f + q) % 2 ^ 128 → (c + 1) % 2 ^ 128 ≡ (f + (q + 1)) % 2 ^ 128
+pub wraps : (f q c : ℕ) → c ≡ (f + q) % 2 ^ 128 → (c + 1) % 2 ^ 128 ≡ (f + (q + 1)) % 2 ^ 128
 wraps f q c h = omega arith
 
-pub fresh : (e : List ℕ → List ℕ) (first : List ℕ) (i counter after : ℕ) (pad : List ℕ) → i % 16 ≡ 0
-    → counter ≡ (from_be_bytes w128 first + (i + 15) / 16) % 2 ^ 128 → pad ≡ e (to_be_bytes w128 counter) → after ≡ (counter + 1) % 2 ^ 128
-    → Ready e first i after pad
-fresh e first i counter after pad zero count block next =
-    let f : ℕ = from_be_bytes w128 first in
-    let here : (i + 15) / 16 ≡ i / 16 = omega arith in
-    let there : (i + 15) / 16 + 1 ≡ (i + 1 + 15) / 16 = omega arith in
+-- a vector that is stored
+pub stored : (at : ℕ) (out block : List ℕ) → at + 16 ≤ length out → length block ≡ 16 → IsAdded at block out (put_chunk at out (zip2 bit_xor (chunk at 16 out) block))
+stored at out block le len =
+    let old : List ℕ = chunk at 16 out in
+    let old_len : length old ≡ 16 = length-chunk at 16 out le in
+    let sum : List ℕ = zip2 bit_xor old block in
+    let sum_len : length sum ≡ 16 = length-zip2 bit_xor old block (old_len ∙ sym len) ∙ old_len in
     record {
-      block = block ∙ ap (λ (n : ℕ). e (to_be_bytes w128 n)) (count ∙ ap (λ (q : ℕ). (f + q) % 2 ^ 128) here);
-      count = next ∙ wraps f ((i + 15) / 16) counter count ∙ ap (λ (q : ℕ). (f + q) % 2 ^ 128) there;
+      len = length-put_chunk at out sum;
+      added = λ k lk lt.
+          get_or-put_chunk_at at out sum k 0 (omega arith) (omega arith)
+          ∙ get_or-zip2 bit_xor old block k 0 0 0 (omega arith) (omega arith)
+          ∙ ap (λ (x : ℕ). bit_xor x (slice_index block k)) (get_or-chunk at 16 out k 0 lk);
+      others = λ k h. elim h [
+        | inl lt ↦ get_or-put_chunk_below at out sum k 0 lt
+        | inr le ↦ get_or-put_chunk_above at out sum k 0 (omega arith)
+      ];
     }
 
-pub kept : (e : List ℕ → List ℕ) (first : List ℕ) (i counter : ℕ) (pad : List ℕ) → 0 < i % 16
-    → counter ≡ (from_be_bytes w128 first + (i + 15) / 16) % 2 ^ 128 → pad ≡ e (counter_at first (i / 16))
-    → Ready e first i counter pad
-kept e first i counter pad pos count block =
-    let f : ℕ = from_be_bytes w128 first in
-    let there : (i + 15) / 16 ≡ (i + 1 + 15) / 16 = omega arith in
-    record { block = block; count = count ∙ ap (λ (q : ℕ). (f + q) % 2 ^ 128) there }
+-- the first n bytes are in counter mode, and the others are the text's
+pub record Begun (e : List ℕ → List ℕ) (first text : List ℕ) (n : ℕ) (out : List ℕ) : Type 0 where
+  pub len : length out ≡ length text
+  pub done : (k : ℕ) → k < n → k < length text → slice_index out k ≡ bit_xor (slice_index text k) (stream_byte e first k)
+  pub left : (k : ℕ) → n ≤ k → slice_index out k ≡ slice_index text k
 
-pub next_block : (e : List ℕ → List ℕ) (first : List ℕ) (i counter : ℕ) (pad : List ℕ) → Ready e first i counter pad → 0 < (i + 1) % 16
-    → pad ≡ e (counter_at first ((i + 1) / 16))
-next_block e first i counter pad ready pos =
-    let f : ℕ = from_be_bytes w128 first in
-    let same : i / 16 ≡ (i + 1) / 16 = omega arith in
-    ready.block ∙ ap (λ (q : ℕ). e (to_be_bytes w128 ((f + q) % 2 ^ 128))) same
+module _ (e : List ℕ → List ℕ) (first text out new block : List ℕ) (at j : ℕ) (place : at ≡ 16 * j) (begun : Begun e first text at out)
+    (is : block ≡ e (counter_at first j)) (added : IsAdded at block out new) where
+  at_block : (m : ℕ) → m < 16 → at + m < length text → slice_index new (at + m) ≡ bit_xor (slice_index text (at + m)) (stream_byte e first (at + m))
+  at_block m lm lt =
+      let len : length out ≡ length text = begun.len in
+      let q : j ≡ (at + m) / 16 = omega arith in
+      let r : m ≡ (at + m) % 16 = omega arith in
+      added.added m lm (omega arith)
+      ∙ ap (λ (x : ℕ). bit_xor x (slice_index block m)) (begun.left (at + m) (omega arith))
+      ∙ ap (bit_xor (slice_index text (at + m))) (ap (λ (b : List ℕ). slice_index b m) is ∙ (λ i. slice_index (e (counter_at first (q i))) (r i)))
 
-pub byte_done : (e : List ℕ → List ℕ) (first : List ℕ) (i counter : ℕ) (pad : List ℕ) → Ready e first i counter pad
-    → (x y : ℕ) → x ≡ y → bit_xor x (slice_index pad (i % 16)) ≡ bit_xor y (stream_byte e first i)
-byte_done e first i counter pad ready x y same =
-    ap (λ (u : ℕ). bit_xor u (slice_index pad (i % 16))) same ∙ ap (λ (p : List ℕ). bit_xor y (slice_index p (i % 16))) ready.block
+  pub block_more : Begun e first text (at + 16) new
+  block_more = record {
+    len = added.len ∙ begun.len;
+    done = λ k lk lt. elim (cases_lt k at) [
+      | inl below ↦ added.others k (inl below) ∙ begun.done k below lt
+      | inr le ↦
+          let here : at + (k - at) ≡ k = omega arith in
+          subst (λ (x : ℕ). slice_index new x ≡ bit_xor (slice_index text x) (stream_byte e first x)) here (at_block (k - at) (omega arith) (omega arith))
+    ];
+    left = λ k le. added.others k (inr le) ∙ begun.left k (omega arith);
+  }

@@ -1,5 +1,6 @@
 pub mod TableFacts
-pub mod Words
+pub mod LaneFacts
+pub mod StateFacts
 pub mod KeyWords
 pub mod KeyFacts
 pub mod CounterFacts

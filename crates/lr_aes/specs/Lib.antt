@@ -4,5 +4,5 @@ pub mod Counter
 pub mod Ghash
 pub mod Gcm
 pub mod Products
-pub mod Words
+pub mod Lanes
 pub mod Examples

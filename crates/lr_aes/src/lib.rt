@@ -1,6 +1,6 @@
 //! AES (FIPS 197), counter mode (SP 800-38A) and GCM (SP 800-38D).
 //!
-//! Everything works in place and takes no memory. Three rooms: the block and its key schedule (`block`,
+//! Everything works in place and takes no memory. Three rooms: the block and its key schedule (`lanes`, `block`,
 //! `schedule`), counter mode (`counter`), and GCM (`ghash`, `gcm`). What a room computes is fixed by the
 //! standard's definition in `specs/`; how it computes that may change without asking the others.
 #![tactic(auto)]
@@ -11,6 +11,7 @@ mod examples;
 mod gcm;
 mod ghash;
 mod key;
+mod lanes;
 #[cfg(test)]
 mod plain;
 mod schedule;

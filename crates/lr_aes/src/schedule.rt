@@ -1,9 +1,16 @@
 //! The key schedule: the words of the expanded key, one after another.
 ghost use Rattle.std.specs.Prelude.{◌≡◌, ◌+◌, ◌-◌, ◌*◌, ◌/◌, ◌<◌, ◌≤◌, [], ◌∷◌, ◌++◌, length, take, replicate, slice_index};
-ghost use Rattle.lr_aes.specs.Cipher.{next_word, scheduled};
+ghost use Rattle.lr_aes.specs.Cipher.{next_word, scheduled, sub_byte};
 ghost use Rattle.lr_aes.specs.Key.{expanded};
 
-use crate::block::sub;
+use crate::tables::SBOX;
+
+// S of a byte.
+fn sub(b: u8) -> u8
+    ensures { result ≡ sub_byte b }
+{
+    SBOX[b as usize]
+}
 
 // The powers of 2 in the field.
 const ROUND_CONSTANTS: [u8; 10] = [1, 2, 4, 8, 16, 32, 64, 128, 27, 54];

@@ -1,9 +1,12 @@
-use Rattle.std.proofs.Common.{◌≡◌, ℕ, ◌+◌, ◌*◌, List, [], ◌∷◌, get_or, slice_index, bit_xor, add-zero, ap, ◌∙◌}
-use Rattle.lr_aes.specs.Cipher.{add_round_key, sub_bytes, last_round}
+use Rattle.std.proofs.Common.{◌≡◌, ℕ, List, map, bit_xor, ap, ◌∙◌}
+use Rattle.std.specs.Simd.Lanes.{zip2}
+use Rattle.lr_aes.specs.Cipher.{sub_byte, shift_rows}
+use Rattle.lr_aes.specs.Lanes.{standard}
+use Rattle.lr_aes.proofs.StateFacts.{rows_of, last_is}
 use Rattle.lr_aes.proofs.block.final_round.Goals as goal
 
 pub returns : goal.returns
-unfolding last_round
-returns c =
-    rw (add-zero (16 * c.args.n)) (λ i. get_or (c.last_column.ensures i) 0 0 ∷ get_or (c.last_column.ensures i) 1 0 ∷ get_or (c.last_column.ensures i) 2 0 ∷ get_or (c.last_column.ensures i) 3 0 ∷ get_or (c.last_column-2.ensures i) 0 0 ∷ get_or (c.last_column-2.ensures i) 1 0 ∷ get_or (c.last_column-2.ensures i) 2 0 ∷ get_or (c.last_column-2.ensures i) 3 0 ∷ get_or (c.last_column-3.ensures i) 0 0 ∷ get_or (c.last_column-3.ensures i) 1 0 ∷ get_or (c.last_column-3.ensures i) 2 0 ∷ get_or (c.last_column-3.ensures i) 3 0 ∷ get_or (c.last_column-4.ensures i) 0 0 ∷ get_or (c.last_column-4.ensures i) 1 0 ∷ get_or (c.last_column-4.ensures i) 2 0 ∷ get_or (c.last_column-4.ensures i) 3 0 ∷ [])
-    ∙ ap (λ (t : List ℕ). add_round_key c.args.keys.now c.args.n (sub_bytes t)) c.shift_rows-t.ensures
+returns c w n key =
+    let s : List ℕ = map standard c.args.y in
+    let rows : map standard c.rows.result ≡ shift_rows s = ap (map standard) c.rows.ensures ∙ rows_of standard c.args.y c.fits-y.0 in
+    (λ i. zip2 bit_xor ((c.plain.ensures ∙ ap (map sub_byte) rows) i) (key i)) ∙ last_is w s n

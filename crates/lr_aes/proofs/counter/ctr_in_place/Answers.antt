@@ -1,23 +1,21 @@
-use Rattle.std.proofs.Common.{◌≡◌, ◌≢◌, ℕ, ◌+◌, ◌-◌, ◌<◌, ◌≤◌, ◌%◌, List, length, set, slice_index, sym, ◌∙◌, arith, below_more, get_or-set_other, get_or-set_same}
+use Rattle.std.proofs.Common.{◌≡◌, ℕ, ◌+◌, ◌-◌, ◌*◌, List, ap, subst, ◌∙◌, arith}
 use Rattle.lr_aes.specs.Cipher.{cipher}
-use Rattle.lr_aes.proofs.CounterFacts.{Ready, fresh, kept, next_block, byte_done}
+use Rattle.lr_aes.proofs.CounterFacts.{Begun, block_more}
 use Rattle.lr_aes.proofs.counter.ctr_in_place.Goals as goal
-use Rattle.lr_aes.proofs.counter.ctr_in_place.Goals.{then-i-eq0, else-i-eq0}
 
 pub loop-i-preserved : goal.loop-i-preserved
 loop-i-preserved c =
     let e : List ℕ → List ℕ = cipher (c.args.rounds - 1) c.args.keys.now in
-    let i = c.loop-i.i in
-    let lt : i < length c.loop-i.buffer = omega arith in
-    let ready : Ready e c.args.first.now i c.if-i-eq0.counter c.if-i-eq0.pad = elim c.if-i-eq0.branch [
-      | then-i-eq0 w ↦ fresh e c.args.first.now i c.loop-i.counter c.if-i-eq0.counter c.if-i-eq0.pad w.if-i-eq0.true c.loop-i.invariant.count (w.pad-is ∙ w.pad_of-next.ensures) w.counter-is
-      | else-i-eq0 w ↦ rw (w.counter-is, w.pad-is) (kept e c.args.first.now i c.loop-i.counter c.loop-i.pad (omega arith) c.loop-i.invariant.count (c.loop-i.invariant.pad (omega arith)))
-    ] in
-    record {
-      done = below_more _ _
-          (λ k h. let ne : k ≢ i = omega arith in rw get_or-set_other (c.loop-i.invariant.done k h))
-          (rw get_or-set_same (byte_done e c.args.first.now i c.if-i-eq0.counter c.if-i-eq0.pad ready _ _ (c.loop-i.invariant.left i (omega arith))));
-      left = λ k h. let ne : k ≢ i = omega arith in rw get_or-set_other (c.loop-i.invariant.left k (omega arith));
-      count = ready.count;
-      pad = next_block e c.args.first.now i c.if-i-eq0.counter c.if-i-eq0.pad ready;
-    }
+    let first : List ℕ = c.args.first.now in
+    let text : List ℕ = c.args.buffer.now in
+    let i : ℕ = c.loop-i.i in
+    let middle : List ℕ = c.add_block.new.buffer in
+    let last : List ℕ = c.add_block-in-loop-i.new.buffer in
+    let one = c.encrypt_pair-stream.ensures.first ∙ ap e c.counters-blocks.ensures.first in
+    let other = c.encrypt_pair-stream.ensures.second ∙ ap e c.counters-blocks.ensures.second in
+    let half : Begun e first text (32 * i + 16) middle =
+    block_more e first text c.loop-i.buffer middle c.encrypt_pair-stream.result.first (32 * i) (2 * i) (omega arith) c.loop-i.invariant one c.add_block.ensures in
+    let whole : Begun e first text (32 * i + 16 + 16) last =
+    block_more e first text middle last c.encrypt_pair-stream.result.second (32 * i + 16) (2 * i + 1) (omega arith) half other c.add_block-in-loop-i.ensures in
+    let next : 32 * i + 16 + 16 ≡ 32 * (i + 1) = omega arith in
+    subst (λ (n : ℕ). Begun e first text n last) next whole
