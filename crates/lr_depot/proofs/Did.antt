@@ -273,3 +273,67 @@ module _ {O : Type 0} (objects : O → Option Objects) (faults : O → ℕ) (sta
         did_back new c call reply (did mid new c call noted reply taken_whole store falls capacity
             (λ e step enters. omega (arith, taken, places_more (state start mid.log.items) e, of_places mid.kernel (state start mid.log.items) taken_whole.held))
             answer (whole_moves mid new.kernel c call noted answer taken_whole serves) is notes shares cause same)
+
+-- a reply that is a fault
+fault_is : (reply : DepotReply) → IsFault reply → (k : _) × (reply ≡ Fault k)
+fault_is (Fault k) f = (k, refl)
+fault_is NoImage f = absurd f
+fault_is (Opened l m) f = absurd f
+fault_is NoLease f = absurd f
+fault_is NoChunk f = absurd f
+fault_is (Fetched k) f = absurd f
+fault_is Closed f = absurd f
+fault_is NoRoot f = absurd f
+fault_is Taken f = absurd f
+fault_is (Doubt k) f = absurd f
+fault_is Full f = absurd f
+fault_is (Began n r b d) f = absurd f
+fault_is NoSession f = absurd f
+fault_is Kept f = absurd f
+fault_is Nonce f = absurd f
+fault_is (Missing i) f = absurd f
+fault_is (Made r) f = absurd f
+fault_is Abandoned f = absurd f
+fault_is RootsEnd f = absurd f
+fault_is (Rotated r) f = absurd f
+fault_is Reaped f = absurd f
+fault_is (Spoiled k) f = absurd f
+fault_is Nothing f = absurd f
+fault_is OutOfMemory f = absurd f
+
+module _ {O : Type 0} (objects : O → Option Objects) (faults : O → ℕ) (start : Start) where
+  module _ (old mid : Body O) (w : IsWhole objects faults start old) (origin : mid.origin ≡ old.origin) (kernel : mid.kernel ≡ old.kernel)
+      (items : mid.log.items ≡ old.log.items) (len : vec_len mid.log ≡ vec_len old.log) (grew : vec_capacity old.log ≤ vec_capacity mid.log) where
+    -- a call that the store isn't asked for
+    pub did_quiet : (new : Body O) (c : ℕ) (call : DepotCall) (noted : DepotNoted) (reply : DepotReply) (answer : Answer)
+        → vec_len mid.log + places mid.kernel + 2 ≤ vec_capacity mid.log → vec_capacity new.log ≡ vec_capacity mid.log
+        → Serves mid.kernel new.kernel c call noted answer → reply ≡ answer.reply → new.origin ≡ mid.origin
+        → ((m : Objects) → objects mid.origin ≡ Some m → StoreStep (state start mid.log.items) c call reply m (Some m))
+        → ((k : _) → ¬ (DepotStep (state start mid.log.items) c call (Fault k)))
+        → IsNoted call noted → (IsShared call → IsSharedEntry noted) → new.log.items ≡ grown mid.log.items c noted answer.told → Did objects faults start old new c call reply
+    did_quiet new c call noted reply answer taken capacity serves is same_origin store never notes shares same =
+        did_taken objects faults start old mid w origin kernel items len grew new c call noted reply answer taken capacity serves is
+            (λ m told. subst (StoreStep (state start mid.log.items) c call reply m) (sym (ap objects same_origin ∙ told)) (store m told))
+            (omega (arith, ap faults same_origin))
+            (λ f. let k = fault_is reply f in absurd (never k.0 (subst (DepotStep (state start mid.log.items) c call) k.1 (step (whole_moves objects faults start mid new.kernel c call noted answer (taken_whole objects faults start old mid w origin kernel items len grew) serves)))))
+            notes shares same
+      where
+        step : Moves (state start mid.log.items) new.kernel c call noted answer → DepotStep (state start mid.log.items) c call reply
+        step moves = subst (DepotStep (state start mid.log.items) c call) (sym is) (first answer.told moves)
+          where
+            first : (o : Option DepotTold) → MovesBy (state start mid.log.items) new.kernel c call noted answer.reply o → DepotStep (state start mid.log.items) c call answer.reply
+            first None h = h.0
+            first (Some t) h = h.0
+
+    -- a call that the store may be asked for
+    pub did_asked : (new : Body O) (c : ℕ) (call : DepotCall) (noted : DepotNoted) (reply : DepotReply) (answer : Answer)
+        → vec_len mid.log + places mid.kernel + 2 ≤ vec_capacity mid.log → vec_capacity new.log ≡ vec_capacity mid.log
+        → Serves mid.kernel new.kernel c call noted answer → reply ≡ answer.reply
+        → ((makers : _) → Told (objects mid.origin) (λ m. StoreStep (state_of mid.kernel makers) c call answer.reply m (objects new.origin)))
+        → faults mid.origin ≤ faults new.origin → (IsFault answer.reply → Rose (faults mid.origin) (faults new.origin))
+        → IsNoted call noted → (IsShared call → IsSharedEntry noted) → new.log.items ≡ grown mid.log.items c noted answer.told → Did objects faults start old new c call reply
+    did_asked new c call noted reply answer taken capacity serves is store falls cause notes shares same =
+        did_taken objects faults start old mid w origin kernel items len grew new c call noted reply answer taken capacity serves is
+            (λ m told. subst (λ s. StoreStep s c call reply m (objects new.origin)) (of_state mid.kernel (state start mid.log.items) (taken_whole objects faults start old mid w origin kernel items len grew).held)
+                (subst (λ r. StoreStep (state_of mid.kernel (state start mid.log.items).desk.makers) c call r m (objects new.origin)) (sym is) (store (state start mid.log.items).desk.makers m told)))
+            falls (λ f. cause (subst IsFault is f)) notes shares same

@@ -34,7 +34,7 @@ module _ (s : State) (e : LogEntry) where
   closing lease Taken some step enters = absurd step
   closing lease (Doubt k) some step enters = absurd step
   closing lease Full some step enters = absurd step
-  closing lease (Began n r b d) some step enters = absurd step
+  closing lease (Began x r b d) some step enters = absurd step
   closing lease NoSession some step enters = absurd step
   closing lease Kept some step enters = absurd step
   closing lease Nonce some step enters = absurd step
@@ -62,7 +62,7 @@ module _ (s : State) (e : LogEntry) where
   abandoning n Taken j holds step enters = absurd step
   abandoning n (Doubt k) j holds step enters = absurd step
   abandoning n Full j holds step enters = absurd step
-  abandoning n (Began n r b d) j holds step enters = absurd step
+  abandoning n (Began x r b d) j holds step enters = absurd step
   abandoning n Kept j holds step enters = absurd step
   abandoning n Nonce j holds step enters = absurd step
   abandoning n (Missing i) j holds step enters = absurd step
@@ -87,7 +87,7 @@ module _ (s : State) (e : LogEntry) where
   reaping Taken step enters = absurd step
   reaping (Doubt k) step enters = absurd step
   reaping Full step enters = absurd step
-  reaping (Began n r b d) step enters = absurd step
+  reaping (Began x r b d) step enters = absurd step
   reaping NoSession step enters = absurd step
   reaping Kept step enters = absurd step
   reaping Nonce step enters = absurd step

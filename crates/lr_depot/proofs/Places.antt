@@ -1,7 +1,5 @@
 -- How many leases and sessions are out after an entry of the log.
-use Rattle.std.proofs.Common.{◌≡◌, ◌≢◌, ◌==◌, ◌≤◌, ◌<◌, ◌+◌, ◌-◌, ℕ, List, [], ◌∷◌, Option, Some, None, IsSome, Bool, true, false, cond, refl, sym, ap, subst, ◌∙◌, inl, inr, arith}
-use mathlib.Core.Logic.{◌⊎◌}
-use Rattle.std.proofs.lemmas.Bool.{cases_Bool, eq-eqb, eqb-true}
+use Rattle.std.proofs.Common.{◌≡◌, ◌≢◌, ◌≤◌, ◌<◌, ◌+◌, ◌-◌, ℕ, List, [], ◌∷◌, Option, Some, None, IsSome, Bool, true, false, cond, refl, sym, ap, subst, ◌∙◌, inl, inr, arith}
 use Rattle.std.specs.Arc.{arc_value}
 use Rattle.std.specs.Ordering.{nat_cmp}
 use Rattle.std.specs.Cmp.{nat_cmp_total}
@@ -46,14 +44,16 @@ module _ {X : Type 0} where
       by false e = omega (arith, e)
 
 module _ (c : ℕ) where
-  abbrev AreFewer : FinMap nat_cmp Session → Type 0
-  AreFewer m = map.len (without_caller c m) ≤ map.len m
+  -- no more sessions are the others' than all
+  abbrev IsNoMore : FinMap nat_cmp Session → Type 0
+  IsNoMore m = map.len (without_caller c m) ≤ map.len m
 
+  -- the sessions of the caller are among these entries
   abbrev AreAmong : FinMap nat_cmp Session → List (ℕ × Session) → Type 0
   AreAmong m es = (n : ℕ) (j : Session) → map.get m n ≡ Some j → j.caller ≡ c → IsOneOf es (n, j)
 
-  -- The sessions of the caller are among these entries: taken out one by one, they leave the others.
-  others_among : (m : FinMap nat_cmp Session) (es : List (ℕ × Session)) → AreAmong m es → AreFewer m
+  -- Sessions that are taken out one by one leave the others.
+  others_among : (m : FinMap nat_cmp Session) (es : List (ℕ × Session)) → AreAmong m es → IsNoMore m
   others_among m [] among = subst (λ o. map.len o ≤ map.len m) (sym (without_none c m (λ n j is own. absurd (among n j is own)))) (omega arith)
   others_among m (y ∷ es) among = at (λ l h. others_among l es h) (map.get m y.0) refl
     where
@@ -69,7 +69,7 @@ module _ (c : ℕ) where
       taken : AreAmong (map.remove m y.0) es
       taken n j here own = rest n j (λ e. not_both _ j (gone_n m y.0) (ap (map.get (map.remove m y.0)) (sym e) ∙ here)) (among n j (left_in m y.0 n j here) own)
 
-      own_at : (z : Session) → map.get m y.0 ≡ Some z → z.caller ≡ c → AreFewer (map.remove m y.0) → AreFewer m
+      own_at : (z : Session) → map.get m y.0 ≡ Some z → z.caller ≡ c → IsNoMore (map.remove m y.0) → IsNoMore m
       own_at z is own fewer =
           let less : map.len (map.remove m y.0) < map.len m = shorter m y.0 z is in
           let same : map.len (without_caller c (map.remove m y.0)) ≡ map.len (without_caller c m) = ap map.len (without_removed c m y.0 z is own) in
@@ -78,7 +78,7 @@ module _ (c : ℕ) where
       same : (z j : Session) → Some z ≡ Some j → z.caller ≡ j.caller
       same z j e = cc
 
-      at : ((l : FinMap nat_cmp Session) → AreAmong l es → AreFewer l) → (o : Option Session) → map.get m y.0 ≡ o → AreFewer m
+      at : ((l : FinMap nat_cmp Session) → AreAmong l es → IsNoMore l) → (o : Option Session) → map.get m y.0 ≡ o → IsNoMore m
       at tail None e = tail m (past (λ j is own. not_both _ j e is))
       at tail (Some z) e = elim (cases_n z.caller c) [
         | inl own ↦ own_at z e own (tail (map.remove m y.0) taken)
@@ -128,7 +128,7 @@ module _ (s : State) (c : ℕ) where
   held_more (noted.Close lease) told.Closed = let less : map.len (map.remove s.desk.leases lease) ≤ map.len s.desk.leases = no_more s.desk.leases lease in omega (arith, less)
   held_more (noted.BeginCreate image) (told.Began session root bytes number) =
       let more : map.len (map.insert s.desk.sessions s.desk.next_session (record { caller = c; job = Creates image root number })) ≤ map.len s.desk.sessions + 1 =
-          one_more s.desk.sessions s.desk.next_session (record { caller = c; job = Creates image root number }) in
+      one_more s.desk.sessions s.desk.next_session (record { caller = c; job = Creates image root number }) in
       omega (arith, more)
   held_more (noted.PutChunk n name) told.Kept = chunk_more n name
   held_more (noted.PutChunk n name) (told.Fault k) = omega arith
@@ -171,7 +171,8 @@ module _ (s : State) (c : ℕ) where
       let less : map.len (without_caller c s.desk.sessions) < map.len s.desk.sessions = others_less c s.desk.sessions n j is own in
       omega (arith, less)
 
-  abbrev IsLess : DepotNoted → DepotTold → Type 0
+  -- the entry leaves at least one less
+  abbrev pub IsLess : DepotNoted → DepotTold → Type 0
   IsLess n t = held (state_after s c n t) + 1 ≤ held s
 
   -- the entry that stands for another one
@@ -185,14 +186,14 @@ module _ (s : State) (c : ℕ) where
   close_less lease OutOfMemory t out step tells = absurd tells
   close_less lease reply t out step tells = absurd step
 
-  -- So does a session of the caller with each entry of its abandonment,
+  -- A session of the caller ends with each entry of its abandonment.
   pub abandon_less : (n : ℕ) (j : Job) (reply : DepotReply) (t : DepotTold) → Holds s n c j → DepotStep s c (Abandon n) reply → IsTold reply t → IsLess (noted.Abandon n) t
   abandon_less n j Abandoned t holds step tells = as_less (noted.Abandon n) (noted.Abandon n) t told.Abandoned refl tells (abandon_one n j holds)
   abandon_less n j NoSession t holds step tells = absurd (step j holds)
   abandon_less n j OutOfMemory t holds step tells = absurd tells
   abandon_less n j reply t holds step tells = absurd step
 
-  -- and some session with each entry of a reaping.
+  -- Some session ends with each entry of a reaping.
   pub reap_less : (reply : DepotReply) (t : DepotTold) → DepotStep s c Reap reply → IsTold reply t → IsLess noted.Reap t
   reap_less Reaped t step tells = as_less noted.Reap noted.Reap t told.Reaped refl tells (reap_some step.0 step.1 step.2 step.3)
   reap_less Nothing t step tells = absurd tells

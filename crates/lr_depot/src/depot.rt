@@ -9,7 +9,7 @@ ghost use Rattle.lr_depot.specs.Depot.{IsWhole, HasPlace, Did, grown};
 
 use crate::asking::{fetch, put_chunk, put_manifest, rotate};
 use crate::call::{DepotCall, DepotNoted, DepotReply, DepotTold};
-use crate::kernel::{Answer, Kernel, creation_of};
+use crate::kernel::{Answer, Kernel};
 use crate::log::DepotLog;
 use crate::numbered::Numbered;
 use crate::start::DepotStart;
@@ -119,7 +119,7 @@ impl<O: Origin> Body<O> {
         requires whole { (start : Start) × IsWhole O.objects O.faults start self.old }
         ensures did { (start : Start) → IsWhole O.objects O.faults start self.old → Did O.objects O.faults start self.old self.new caller (call.Close lease) result }
     {
-        if self.kernel.leases.get(lease).is_some() {
+        if self.kernel.has_lease(lease) {
             return self.end_lease(caller, lease);
         }
         if !self.take_places() {
@@ -222,7 +222,7 @@ impl<O: Origin> Body<O> {
         requires whole { (start : Start) × IsWhole O.objects O.faults start self.old }
         ensures did { (start : Start) → IsWhole O.objects O.faults start self.old → Did O.objects O.faults start self.old self.new caller (call.Abandon session) result }
     {
-        if creation_of(&self.kernel.sessions, session, caller).is_some() {
+        if self.kernel.has_session(session, caller) {
             return self.end_session(caller, session);
         }
         if !self.take_places() {

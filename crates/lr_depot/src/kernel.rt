@@ -1,5 +1,5 @@
 //! What the depot holds beside the store and its log, and the calls that the store isn't asked for.
-ghost use Rattle.std.specs.Prelude.{◌≡◌, ◌≢◌, ◌+◌, ◌<◌, ◌^◌, Some, None, IfOk, MatchOption};
+ghost use Rattle.std.specs.Prelude.{◌≡◌, ◌≢◌, ◌+◌, ◌<◌, ◌^◌, ◌↔◌, IsTrue, Some, None, IsSome, IfOk, MatchOption};
 ghost use Rattle.std.specs.Arc.{arc_value};
 ghost use Rattle.std.specs.FinMap as map;
 ghost use Rattle.lr_depot.specs.declared.call.DepotCall.TheVariants as call;
@@ -71,6 +71,20 @@ impl Kernel {
         ensures { result ≡ places self.now }
     {
         self.leases.len() + self.sessions.len()
+    }
+
+    /// Whether the lease is out.
+    pub(crate) fn has_lease(&self, lease: u64) -> bool
+        ensures { IsTrue result ↔ IsSome (map.get self.now.leases lease) }
+    {
+        self.leases.get(lease).is_some()
+    }
+
+    /// Whether the caller has the session.
+    pub(crate) fn has_session(&self, session: u64, caller: u32) -> bool
+        ensures { IsTrue result ↔ ((j : Job) × (map.get self.now.sessions session ≡ Some (record { caller = caller; job = j }))) }
+    {
+        creation_of(&self.sessions, session, caller).is_some()
     }
 
     /// Leases an image with the manifest of its home.

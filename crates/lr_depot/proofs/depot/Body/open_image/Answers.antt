@@ -1,0 +1,22 @@
+use Rattle.std.proofs.Common.{◌≡◌, ◌≤◌, ◌<◌, ◌+◌, ℕ, Some, refl, sym, ap, ◌∙◌, arith}
+use Rattle.lr_depot.specs.declared.call.DepotCall.TheVariants as call
+use Rattle.lr_depot.specs.declared.call.DepotNoted.TheVariants as noted
+use Rattle.lr_depot.proofs.Did.{whole_ready, taken_whole, did_none, did_quiet}
+use Rattle.lr_depot.proofs.depot.Body.open_image.Goals as goal
+
+pub returns-then-not-take_places : goal.returns-then-not-take_places
+returns-then-not-take_places g c = record {
+  did = λ start w. did_none g.O.Origin.objects g.O.Origin.faults start c.args.self.now c.take_places.new.self w c.take_places.ensures.rest.0 c.take_places.ensures.rest.1 c.take_places.ensures.items c.take_places.ensures.len c.take_places.ensures.capacity c.args.caller (call.OpenImage c.args.image) tt;
+}
+
+pub open_image-answer-requires-clause-ready : goal.open_image-answer-requires-clause-ready
+open_image-answer-requires-clause-ready g c = whole_ready g.O.Origin.objects g.O.Origin.faults c.requires.whole.0 c.take_places.new.self (taken_whole g.O.Origin.objects g.O.Origin.faults c.requires.whole.0 c.args.self.now c.take_places.new.self c.requires.whole.1 c.take_places.ensures.rest.0 c.take_places.ensures.rest.1 c.take_places.ensures.items c.take_places.ensures.len c.take_places.ensures.capacity)
+
+pub returns : goal.returns
+returns g c = record {
+  did = λ start w. did_quiet g.O.Origin.objects g.O.Origin.faults start c.args.self.now c.take_places.new.self w c.take_places.ensures.rest.0 c.take_places.ensures.rest.1 c.take_places.ensures.items c.take_places.ensures.len c.take_places.ensures.capacity
+      (record { origin = c.take_places.new.self.origin; kernel = c.open_image-answer.new.self; log = c.finish.new.log })
+      c.args.caller (call.OpenImage c.args.image) (noted.OpenImage c.args.image) c.finish.result c.open_image-answer.result
+      (c.take_places.ensures.taken c.if-not-take_places.false) c.finish.ensures.capacity c.open_image-answer.ensures.served c.finish.ensures.reply
+      refl (λ m told. refl) (λ k step. step) refl (λ shared. tt) c.finish.ensures.log;
+}

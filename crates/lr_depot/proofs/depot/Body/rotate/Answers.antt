@@ -1,0 +1,22 @@
+use Rattle.std.proofs.Common.{◌≡◌, ◌≤◌, ◌<◌, ◌+◌, ℕ, Some, refl, sym, ap, ◌∙◌, arith}
+use Rattle.lr_depot.specs.declared.call.DepotCall.TheVariants as call
+use Rattle.lr_depot.specs.declared.call.DepotNoted.TheVariants as noted
+use Rattle.lr_depot.proofs.Did.{whole_ready, taken_whole, did_none, did_asked}
+use Rattle.lr_depot.proofs.depot.Body.rotate.Goals as goal
+
+pub returns-then-not-take_places : goal.returns-then-not-take_places
+returns-then-not-take_places g c = record {
+  did = λ start w. did_none g.O.Origin.objects g.O.Origin.faults start c.args.self.now c.take_places.new.self w c.take_places.ensures.rest.0 c.take_places.ensures.rest.1 c.take_places.ensures.items c.take_places.ensures.len c.take_places.ensures.capacity c.args.caller (call.Rotate c.args.salt) tt;
+}
+
+pub rotate-answer-requires : goal.rotate-answer-requires
+rotate-answer-requires g c = record { ready = whole_ready g.O.Origin.objects g.O.Origin.faults c.requires.whole.0 c.take_places.new.self (taken_whole g.O.Origin.objects g.O.Origin.faults c.requires.whole.0 c.args.self.now c.take_places.new.self c.requires.whole.1 c.take_places.ensures.rest.0 c.take_places.ensures.rest.1 c.take_places.ensures.items c.take_places.ensures.len c.take_places.ensures.capacity) }
+
+pub returns : goal.returns
+returns g c = record {
+  did = λ start w. did_asked g.O.Origin.objects g.O.Origin.faults start c.args.self.now c.take_places.new.self w c.take_places.ensures.rest.0 c.take_places.ensures.rest.1 c.take_places.ensures.items c.take_places.ensures.len c.take_places.ensures.capacity
+      (record { origin = c.rotate-answer.new.origin; kernel = c.rotate-answer.new.kernel; log = c.finish.new.log })
+      c.args.caller (call.Rotate c.args.salt) (noted.Rotate c.args.salt) c.finish.result c.rotate-answer.result
+      (c.take_places.ensures.taken c.if-not-take_places.false) c.finish.ensures.capacity c.rotate-answer.ensures.served c.finish.ensures.reply
+      c.rotate-answer.ensures.store c.rotate-answer.ensures.never_falls c.rotate-answer.ensures.cause refl (λ shared. tt) c.finish.ensures.log;
+}

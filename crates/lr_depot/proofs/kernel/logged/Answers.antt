@@ -1,2 +1,0 @@
-use Rattle.lr_depot.proofs.Did.{did}
-use Rattle.lr_depot.proofs.Ending.{reaping}
