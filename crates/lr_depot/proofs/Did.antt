@@ -1,18 +1,21 @@
 -- What a call does to a whole depot.
-use Rattle.std.proofs.Common.{◌≡◌, ◌≤◌, ◌<◌, ◌+◌, ℕ, Bool, true, false, List, [], ◌∷◌, ◌++◌, Option, Some, None, refl, sym, ap, subst, ◌∙◌, inl, inr, arith, length, length-append, MatchBool, vec_len, vec_capacity}
+use Rattle.std.proofs.Common.{◌≡◌, ◌≤◌, ◌<◌, ◌+◌, ℕ, Bool, true, false, List, [], ◌∷◌, ◌++◌, Option, Some, None, IsSome, refl, sym, ap, subst, ◌∙◌, inl, inr, arith, length, length-append, MatchBool, vec_len, vec_capacity}
 use mathlib.Core.Logic.{◌⊎◌}
 use Rattle.std.specs.Bool.{OnFalse}
 use Rattle.lr_spec.specs.Rose.{Rose}
 use Rattle.lr_spec.specs.Told.{Told}
 use Rattle.lr_origin.specs.Objects.{Objects}
-use Rattle.lr_rules.specs.State.{State}
+use Rattle.std.specs.FinMap as map
+use Rattle.lr_rules.specs.State.{Job, State, Holds}
 use Rattle.lr_rules.specs.Safe.{IsSafe}
 use Rattle.lr_rules.specs.Names.{HasRoom}
+use Rattle.lr_rules.proofs.Outcomes.{is_none}
 use Rattle.lr_rules.proofs.Start.{start_safe}
 use Rattle.lr_rules.proofs.Room.{start_room}
 use Rattle.lr_depot.specs.declared.call.DepotCall.{DepotCall}
 use Rattle.lr_depot.specs.declared.call.DepotCall.TheVariants.{OpenImage, Fetch, Close, BeginCreate, PutChunk, PutManifest, Abandon, Rotate, Reap}
 use Rattle.lr_depot.specs.declared.call.DepotNoted.{DepotNoted}
+use Rattle.lr_depot.specs.declared.call.DepotNoted.TheVariants as noted
 use Rattle.lr_depot.specs.declared.call.DepotReply.{DepotReply}
 use Rattle.lr_depot.specs.declared.call.DepotReply.TheVariants.{NoImage, Opened, NoLease, NoChunk, Fetched, Closed, NoRoot, Taken, Doubt, Full, Began, NoSession, Kept, Nonce, Missing, Made, Abandoned, RootsEnd, Rotated, Reaped, Nothing, Fault, Spoiled, OutOfMemory}
 use Rattle.lr_depot.specs.declared.call.DepotTold.{DepotTold}
@@ -21,7 +24,7 @@ use Rattle.lr_depot.specs.declared.depot.Body.{Body}
 use Rattle.lr_depot.specs.declared.kernel.Kernel.{Kernel}
 use Rattle.lr_depot.specs.declared.kernel.Answer.{Answer}
 use Rattle.lr_depot.specs.Begun.{Start}
-use Rattle.lr_depot.specs.Machine.{LogEntry, DepotStep, Enters, IsNoted, IsTold, IsShared, IsSharedEntry, state_after, after_entry, run, is_logged}
+use Rattle.lr_depot.specs.Machine.{LogEntry, HasNone, DepotStep, Enters, IsNoted, IsTold, IsShared, IsSharedEntry, state_after, after_entry, run, is_logged}
 use Rattle.lr_depot.specs.Store.{StoreStep, IsRun, LeadsTo, IsFault, is_fault, tells_fault, Covers}
 use Rattle.lr_depot.specs.Kernel.{IsOf, IsReady, Moves, MovesBy, Serves, state_of, held, places}
 use Rattle.lr_depot.specs.Depot.{IsWhole, HasPlace, Did, IsStart, first_state, state, grown}
@@ -30,6 +33,7 @@ use Rattle.lr_depot.proofs.Moved.{run_safe, run_room}
 use Rattle.lr_depot.proofs.NextNumbers.{next_more}
 use Rattle.lr_depot.proofs.Whole.{of_state, ready_of, of_places}
 use Rattle.lr_depot.proofs.Places.{places_more}
+use Rattle.lr_depot.proofs.Ending.{reaping}
 
 match_true : (b : Bool) (P Q : Type 0) → b ≡ true → P → MatchBool b P Q
 match_true b P Q e p = subst (λ b. MatchBool b P Q) (sym e) p
@@ -147,7 +151,7 @@ module _ {O : Type 0} (objects : O → Option Objects) (faults : O → ℕ) (sta
   module _ (old new : Body O) (c : ℕ) (call : DepotCall) (noted : DepotNoted) (reply : DepotReply) (w : IsWhole objects faults start old)
       (store : Told (objects old.origin) (λ m. StoreStep (state start old.log.items) c call reply m (objects new.origin)))
       (falls : faults old.origin ≤ faults new.origin) (capacity : vec_capacity new.log ≡ vec_capacity old.log)
-      (fit : (e : LogEntry) → HasPlace start old call reply e) where
+      (fit : (e : LogEntry) → HasPlace start old c call reply e) where
     -- a reply that the log doesn't keep
     did_unlogged : DepotStep (state start old.log.items) c call reply → is_logged reply ≡ false → IsOf new.kernel (state start old.log.items) → new.log.items ≡ old.log.items → Did objects faults start old new c call reply
     did_unlogged step off hold same = record {
@@ -197,7 +201,7 @@ module _ {O : Type 0} (objects : O → Option Objects) (faults : O → ℕ) (sta
         rising = omega (arith, w.rising, falls);
         leases = subst (λ s. s.desk.next_lease ≤ vec_len new.log + 1) (sym after) (omega (arith, next.0, w.leases, lens));
         sessions = subst (λ s. s.desk.next_session ≤ vec_len new.log + 1) (sym after) (omega (arith, next.1, w.sessions, lens));
-        places = omega (arith, fit e step enters, capacity, lens, of_places new.kernel (state_after (state start old.log.items) c noted t) hold);
+        places = omega (arith, fit e refl step enters, capacity, lens, of_places new.kernel (state_after (state start old.log.items) c noted t) hold);
       };
     }
       where
@@ -271,7 +275,7 @@ module _ {O : Type 0} (objects : O → Option Objects) (faults : O → ℕ) (sta
         → new.log.items ≡ grown mid.log.items c noted answer.told → Did objects faults start old new c call reply
     did_taken new c call noted reply answer taken capacity serves is store falls cause notes shares same =
         did_back new c call reply (did mid new c call noted reply taken_whole store falls capacity
-            (λ e step enters. omega (arith, taken, places_more (state start mid.log.items) e, of_places mid.kernel (state start mid.log.items) taken_whole.held))
+            (λ e own step enters. omega (arith, taken, places_more (state start mid.log.items) e, of_places mid.kernel (state start mid.log.items) taken_whole.held))
             answer (whole_moves mid new.kernel c call noted answer taken_whole serves) is notes shares cause same)
 
 -- a reply that is a fault
@@ -337,3 +341,48 @@ module _ {O : Type 0} (objects : O → Option Objects) (faults : O → ℕ) (sta
             (λ m told. subst (λ s. StoreStep s c call reply m (objects new.origin)) (of_state mid.kernel (state start mid.log.items) (taken_whole objects faults start old mid w origin kernel items len grew).held)
                 (subst (λ r. StoreStep (state_of mid.kernel (state start mid.log.items).desk.makers) c call r m (objects new.origin)) (sym is) (store (state start mid.log.items).desk.makers m told)))
             falls (λ f. cause (subst IsFault is f)) notes shares same
+
+  -- a lease or session ends, which has its place in the log
+  pub did_ended : (old new : Body O) (c : ℕ) (call : DepotCall) (noted : DepotNoted) (reply : DepotReply) (answer : Answer) → IsWhole objects faults start old
+      → new.origin ≡ old.origin → vec_capacity new.log ≡ vec_capacity old.log → ((e : LogEntry) → HasPlace start old c call reply e)
+      → Serves old.kernel new.kernel c call noted answer → reply ≡ answer.reply
+      → ((m : Objects) → objects old.origin ≡ Some m → StoreStep (state start old.log.items) c call reply m (Some m))
+      → ((k : _) → ¬ (DepotStep (state start old.log.items) c call (Fault k)))
+      → IsNoted call noted → (IsShared call → IsSharedEntry noted) → new.log.items ≡ grown old.log.items c noted answer.told → Did objects faults start old new c call reply
+  did_ended old new c call noted reply answer w same_origin capacity fit serves is store never notes shares same =
+      did objects faults start old new c call noted reply w
+          (λ m told. subst (StoreStep (state start old.log.items) c call reply m) (sym (ap objects same_origin ∙ told)) (store m told))
+          (omega (arith, ap faults same_origin)) capacity fit answer moves is notes shares
+          (λ f. let k = fault_is reply f in absurd (never k.0 (subst (DepotStep (state start old.log.items) c call) k.1 (subst (DepotStep (state start old.log.items) c call) (sym is) (first answer.told moves)))))
+          same
+    where
+      moves : Moves (state start old.log.items) new.kernel c call noted answer
+      moves = whole_moves objects faults start old new.kernel c call noted answer w serves
+
+      first : (o : Option DepotTold) → MovesBy (state start old.log.items) new.kernel c call noted answer.reply o → DepotStep (state start old.log.items) c call answer.reply
+      first None h = h.0
+      first (Some t) h = h.0
+
+  -- where the caller has a session, its end has a place
+  pub reap_room : (body : Body O) (new : Kernel) (c : ℕ) (answer : Answer) → IsWhole objects faults start body → Serves body.kernel new c Reap noted.Reap answer → IsSome answer.told → vec_len body.log < vec_capacity body.log
+  reap_room body new c answer w serves some = by answer.told some (whole_moves objects faults start body new c Reap noted.Reap answer w serves)
+    where
+      by : (o : Option DepotTold) → IsSome o → MovesBy (state start body.log.items) new c Reap noted.Reap answer.reply o → vec_len body.log < vec_capacity body.log
+      by None some h = absurd cc
+      by (Some t) some h =
+          let less = reaping (state start body.log.items) (record { caller = c; call = noted.Reap; reply = t }) answer.reply h.0 (record { logged = h.1; noted = refl; told = h.2 }) in
+          omega (arith, less, w.places, of_places body.kernel (state start body.log.items) w.held)
+
+  -- what is held is out in the state
+  module _ (body : Body O) (w : IsWhole objects faults start body) where
+    pub lease_out : (lease : ℕ) → IsSome (map.get body.kernel.leases lease) → IsSome (map.get (state start body.log.items).desk.leases lease)
+    lease_out lease out = subst (λ m. IsSome (map.get m lease)) w.held.leases out
+
+    pub no_lease : (lease : ℕ) → ¬ (IsSome (map.get body.kernel.leases lease)) → map.get (state start body.log.items).desk.leases lease ≡ None
+    no_lease lease away = is_none _ (λ out. away (subst (λ m. IsSome (map.get m lease)) (sym w.held.leases) out))
+
+    pub session_out : (n c : ℕ) → (j : Job) × (map.get body.kernel.sessions n ≡ Some (record { caller = c; job = j })) → (j : Job) × Holds (state start body.log.items) n c j
+    session_out n c out = (out.0, subst (λ m. map.get m n ≡ Some (record { caller = c; job = out.0 })) w.held.sessions out.1)
+
+    pub no_session : (n c : ℕ) → ¬ ((j : Job) × (map.get body.kernel.sessions n ≡ Some (record { caller = c; job = j }))) → HasNone (state start body.log.items) n c
+    no_session n c away = λ j holds. away (j, subst (λ m. map.get m n ≡ Some (record { caller = c; job = j })) (sym w.held.sessions) holds)

@@ -59,10 +59,10 @@ pub record IsWhole {O : Type 0} (objects : O → Option Objects) (faults : O →
   pub sessions : (state start body.log.items).desk.next_session ≤ vec_len body.log + 1
   pub places : vec_len body.log + places body.kernel ≤ vec_capacity body.log
 
--- The log has a place for this entry of a call, beside those of what is out afterwards.
-abbrev pub HasPlace : {O : Type 0} → Start → Body O → DepotCall → DepotReply → LogEntry → Type 0
-HasPlace start body call reply e =
-    DepotStep (state start body.log.items) e.caller call reply → Enters call reply e
+-- The log has a place for this entry of a caller's call, beside those of what is out afterwards.
+abbrev pub HasPlace : {O : Type 0} → Start → Body O → ℕ → DepotCall → DepotReply → LogEntry → Type 0
+HasPlace start body c call reply e =
+    e.caller ≡ c → DepotStep (state start body.log.items) e.caller call reply → Enters call reply e
     → held (after_entry (state start body.log.items) e) + 1 + vec_len body.log ≤ vec_capacity body.log
 
 -- What a call does: its reply is the machine's, the log has one entry more or the depot is as it was, and it stays whole.

@@ -131,7 +131,7 @@ impl<O: Origin> Body<O> {
     fn end_lease(&mut self, caller: u32, lease: u64) -> DepotReply
         requires whole { (start : Start) × IsWhole O.objects O.faults start self.old }
         requires room { vec_len self.old.log < vec_capacity self.old.log }
-        ensures did { (start : Start) → IsWhole O.objects O.faults start self.old → ((e : LogEntry) → HasPlace start self.old (call.Close lease) result e) → Did O.objects O.faults start self.old self.new caller (call.Close lease) result }
+        ensures did { (start : Start) → IsWhole O.objects O.faults start self.old → ((e : LogEntry) → HasPlace start self.old caller (call.Close lease) result e) → Did O.objects O.faults start self.old self.new caller (call.Close lease) result }
     {
         let answer = self.kernel.close(caller, lease);
         finish(
@@ -234,7 +234,7 @@ impl<O: Origin> Body<O> {
     fn end_session(&mut self, caller: u32, session: u64) -> DepotReply
         requires whole { (start : Start) × IsWhole O.objects O.faults start self.old }
         requires room { vec_len self.old.log < vec_capacity self.old.log }
-        ensures did { (start : Start) → IsWhole O.objects O.faults start self.old → ((e : LogEntry) → HasPlace start self.old (call.Abandon session) result e) → Did O.objects O.faults start self.old self.new caller (call.Abandon session) result }
+        ensures did { (start : Start) → IsWhole O.objects O.faults start self.old → ((e : LogEntry) → HasPlace start self.old caller (call.Abandon session) result e) → Did O.objects O.faults start self.old self.new caller (call.Abandon session) result }
     {
         let answer = self.kernel.abandon(caller, session);
         finish(

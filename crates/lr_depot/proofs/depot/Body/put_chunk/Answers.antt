@@ -17,7 +17,7 @@ pub returns : goal.returns
 returns g c = record {
   did = λ start w. did_asked g.O.Origin.objects g.O.Origin.faults start c.args.self.now c.take_places.new.self w c.take_places.ensures.rest.0 c.take_places.ensures.rest.1 c.take_places.ensures.items c.take_places.ensures.len c.take_places.ensures.capacity
       (record { origin = c.put_chunk-answer.new.origin; kernel = c.put_chunk-answer.new.kernel; log = c.finish.new.log })
-      c.args.caller (call.PutChunk c.args.session c.args.chunk) (noted.PutChunk c.args.session c.name.result.now) c.finish.result c.put_chunk-answer.result
-      (c.take_places.ensures.taken c.if-not-take_places.false) c.finish.ensures.capacity (c.put_chunk-answer.ensures.served c.name.result.now (c.name.ensures ∙ ap sha256 c.deref.ensures)) c.finish.ensures.reply
-      c.put_chunk-answer.ensures.store c.put_chunk-answer.ensures.never_falls c.put_chunk-answer.ensures.cause (refl, c.name.ensures ∙ ap sha256 c.deref.ensures) (λ shared. tt) c.finish.ensures.log;
+      c.args.caller (call.PutChunk c.args.session c.args.chunk) (noted.PutChunk c.args.session c.name-name.result.now) c.finish.result c.put_chunk-answer.result
+      (c.take_places.ensures.taken c.if-not-take_places.false) c.finish.ensures.capacity (c.put_chunk-answer.ensures.served c.name-name.result.now (c.name-name.ensures ∙ ap sha256 c.deref.ensures)) c.finish.ensures.reply
+      c.put_chunk-answer.ensures.store c.put_chunk-answer.ensures.never_falls c.put_chunk-answer.ensures.cause (refl, c.name-name.ensures ∙ ap sha256 c.deref.ensures) (λ shared. tt) c.finish.ensures.log;
 }
