@@ -17,3 +17,4 @@ pub mod Ending
 pub mod Places
 pub mod NextNumbers
 pub mod Whole
+pub mod Starting

@@ -1,6 +1,7 @@
 //! Reading a store into a catalog.
 ghost use Rattle.std.specs.Prelude.{◌≡◌, ◌≤◌, ◌^◌, IfOk, IfErr, None};
 ghost use Rattle.lr_spec.specs.Told.{Told};
+ghost use Rattle.lr_roots.specs.Names.{AreFewer, IsNamed};
 ghost use Rattle.lr_roots.specs.Sound.{IsSound};
 ghost use Rattle.lr_origin.specs.Objects.{found};
 ghost use Rattle.lr_opening.specs.Store.{Mirrors};
@@ -34,6 +35,7 @@ fn foreign_text(alloc: Global, catalog: &Catalog) -> Result<Option<Vec<u8>>, Out
 /// none, with the first that breaks a rule of `Catalog::foreign`.
 pub fn open<O: Origin>(alloc: Global, origin: &mut O) -> Result<Catalog, StartCause>
     ensures sound { IfOk result (λ catalog. IsSound catalog.view) }
+    ensures names { IfOk result (λ catalog. AreFewer (IsNamed catalog.view) (2 ^ 32)) }
     ensures whole { IfOk result (λ catalog. Told (O.objects origin.old) (λ m. Mirrors m catalog.view × HasFewer m (2 ^ 32))) }
     ensures aside { IfOk result (λ catalog. catalog.aside ≡ None) }
     ensures cause { IfErr result (λ cause. IsCause (O.objects origin.old) (O.faults origin.old) (O.faults origin.new) cause) }

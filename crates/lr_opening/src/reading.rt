@@ -127,6 +127,7 @@ pub(crate) fn read_all<O: Origin>(
     requires few { length keys.now < 2 ^ 32 }
     ensures read { IfOk result (λ read. Told (O.objects origin.old) (λ m. ListsAll m (bytes_of keys.now) → HaveRead m (bytes_of keys.now) read.0.view (found read.1))) }
     ensures suits { IfOk result (λ read. AreSuited read.0.view) }
+    ensures names { IfOk result (λ read. AreFewer (IsNamed read.0.view) (2 ^ 32)) }
     ensures aside { IfOk result (λ read. read.0.aside ≡ None) }
     ensures cause { IfErr result (λ cause. AreListed (O.objects origin.old) (bytes_of keys.now) → IsCause (O.objects origin.old) (O.faults origin.old) (O.faults origin.new) cause) }
     ensures same { O.objects origin.new ≡ O.objects origin.old }

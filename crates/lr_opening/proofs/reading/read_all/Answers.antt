@@ -1,4 +1,4 @@
-use Rattle.std.proofs.Common.{◌≡◌, ◌<◌, ◌+◌, [], None, length, refl, sym, ap, subst, ◌∙◌, arith}
+use Rattle.std.proofs.Common.{◌≡◌, ◌<◌, ◌+◌, ◌^◌, [], None, length, refl, sym, ap, subst, ◌∙◌, arith}
 use Rattle.std.proofs.lemmas.Result.{err_from_is_err_and}
 use Rattle.std.specs.FinMap as map
 use Rattle.lr_origin.specs.Objects.{found}
@@ -6,7 +6,7 @@ use Rattle.lr_roots.specs.View.{View}
 use Rattle.lr_roots.specs.Catalog.{Seen}
 use Rattle.lr_roots.specs.Names.{AreFewer, IsNamed}
 use Rattle.lr_opening.specs.Reading.{AreSuited, HaveRead}
-use Rattle.lr_opening.proofs.Names.{fewer_empty}
+use Rattle.lr_opening.proofs.Names.{fewer_empty, fewer_within}
 use Rattle.lr_opening.proofs.Readings.{read_nothing, suited_empty, reads_next, cause_of_key}
 use Rattle.lr_opening.proofs.reading.read_all.Goals as goal
 
@@ -45,3 +45,6 @@ loop-text-preserved g c =
       same = c.read_next.ensures.same ∙ kept.same;
       never_falls = omega (arith, kept.never_falls, c.read_next.ensures.never_falls);
     }
+
+pub returns-clause-names : goal.returns-clause-names
+returns-clause-names g c = fewer_within (IsNamed c.loop-text.catalog.view) (c.loop-text.text-index + 1) (2 ^ 32) c.loop-text.invariant.fewer (omega (arith, c.requires.few, c.loop-text.auto.text-index-end))
