@@ -26,8 +26,10 @@ pub fetched_store : (s : State) (c lease index : ℕ) (handle : Arc (List ℕ) G
     → map.get m (key_text k) ≡ Some body → n ≡ Some m → StoreStep s c (Fetch lease index) reply m n
 fetched_store s c lease index handle reply k r name body m n is fetch chunk long digest same got left =
     subst (λ a. StoreStep s c (Fetch lease index) a m n) (sym is) (
-      left, (
-        k, fetch,
+      left,
+      (
+        k,
+        fetch,
         subst (λ b. IsChunkBody k b) (sym same) (subst (λ k. IsChunkBody k body) (sym chunk) (long, digest)),
         got ∙ ap Some (sym same),
       ),
@@ -39,7 +41,8 @@ pub kept_there : (s : State) (c session : ℕ) (chunk : Arc (List ℕ) Global) (
     → Has s.known.view k → n ≡ Some m → StoreStep s c (PutChunk session chunk) reply m n
 kept_there s c session chunk reply image r d k name m n is holds key named long has left =
     subst (λ a. StoreStep s c (PutChunk session chunk) a m n) (sym is) (
-      k, (Creates image r d, holds, key ∙ ap (Chunk r) named),
+      k,
+      (Creates image r d, holds, key ∙ ap (Chunk r) named),
       subst (λ k. IsChunkBody k (arc_value chunk)) (sym key) (long, sym named),
       inl (has, left),
     )

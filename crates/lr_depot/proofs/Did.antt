@@ -194,9 +194,12 @@ module _ {O : Type 0} (objects : O → Option Objects) (faults : O → ℕ) (sta
         legal = subst (IsRun (first_state start)) (sym same) (is_run_more (first_state start) old.log.items e call reply w.legal step enters);
         leads = λ m told.
             let l = w.leads m told in
-            let k = store_tells (state start old.log.items) c call reply l.0 (objects new.origin) (store l.0 l.1) in
-            (k.0, k.1, subst (λ log. LeadsTo (first_state start) m log k.0) (sym same)
-                (leads_more (first_state start) m old.log.items l.0 e call reply k.0 l.2 step enters (subst (StoreStep (state start old.log.items) c call reply l.0) k.1 (store l.0 l.1))));
+            let k = store_tells (state start old.log.items) c call reply l.0 (objects new.origin) (store l.0 l.1) in (
+              k.0,
+              k.1,
+              subst (λ log. LeadsTo (first_state start) m log k.0) (sym same)
+                  (leads_more (first_state start) m old.log.items l.0 e call reply k.0 l.2 step enters (subst (StoreStep (state start old.log.items) c call reply l.0) k.1 (store l.0 l.1))),
+            );
         counted = subst (λ l. Covers start.faults l (faults new.origin)) (sym same) (counted (is_fault e) refl);
         rising = omega (arith, w.rising, falls);
         leases = subst (λ s. s.desk.next_lease ≤ vec_len new.log + 1) (sym after) (omega (arith, next.0, w.leases, lens));
@@ -275,8 +278,8 @@ module _ {O : Type 0} (objects : O → Option Objects) (faults : O → ℕ) (sta
         → new.log.items ≡ grown mid.log.items c noted answer.told → Did objects faults start old new c call reply
     did_taken new c call noted reply answer taken capacity serves is store falls cause notes shares same =
         did_back new c call reply (did mid new c call noted reply taken_whole store falls capacity
-            (λ e own step enters. omega (arith, taken, places_more (state start mid.log.items) e, of_places mid.kernel (state start mid.log.items) taken_whole.held))
-            answer (whole_moves mid new.kernel c call noted answer taken_whole serves) is notes shares cause same)
+        (λ e own step enters. omega (arith, taken, places_more (state start mid.log.items) e, of_places mid.kernel (state start mid.log.items) taken_whole.held))
+        answer (whole_moves mid new.kernel c call noted answer taken_whole serves) is notes shares cause same)
 
 -- a reply that is a fault
 fault_is : (reply : DepotReply) → IsFault reply → (k : _) × (reply ≡ Fault k)
@@ -317,10 +320,10 @@ module _ {O : Type 0} (objects : O → Option Objects) (faults : O → ℕ) (sta
         → IsNoted call noted → (IsShared call → IsSharedEntry noted) → new.log.items ≡ grown mid.log.items c noted answer.told → Did objects faults start old new c call reply
     did_quiet new c call noted reply answer taken capacity serves is same_origin store never notes shares same =
         did_taken objects faults start old mid w origin kernel items len grew new c call noted reply answer taken capacity serves is
-            (λ m told. subst (StoreStep (state start mid.log.items) c call reply m) (sym (ap objects same_origin ∙ told)) (store m told))
-            (omega (arith, ap faults same_origin))
-            (λ f. let k = fault_is reply f in absurd (never k.0 (subst (DepotStep (state start mid.log.items) c call) k.1 (step (whole_moves objects faults start mid new.kernel c call noted answer (taken_whole objects faults start old mid w origin kernel items len grew) serves)))))
-            notes shares same
+        (λ m told. subst (StoreStep (state start mid.log.items) c call reply m) (sym (ap objects same_origin ∙ told)) (store m told))
+        (omega (arith, ap faults same_origin))
+        (λ f. let k = fault_is reply f in absurd (never k.0 (subst (DepotStep (state start mid.log.items) c call) k.1 (step (whole_moves objects faults start mid new.kernel c call noted answer (taken_whole objects faults start old mid w origin kernel items len grew) serves)))))
+        notes shares same
       where
         step : Moves (state start mid.log.items) new.kernel c call noted answer → DepotStep (state start mid.log.items) c call reply
         step moves = subst (DepotStep (state start mid.log.items) c call) (sym is) (first answer.told moves)
@@ -338,9 +341,9 @@ module _ {O : Type 0} (objects : O → Option Objects) (faults : O → ℕ) (sta
         → IsNoted call noted → (IsShared call → IsSharedEntry noted) → new.log.items ≡ grown mid.log.items c noted answer.told → Did objects faults start old new c call reply
     did_asked new c call noted reply answer taken capacity serves is store falls cause notes shares same =
         did_taken objects faults start old mid w origin kernel items len grew new c call noted reply answer taken capacity serves is
-            (λ m told. subst (λ s. StoreStep s c call reply m (objects new.origin)) (of_state mid.kernel (state start mid.log.items) (taken_whole objects faults start old mid w origin kernel items len grew).held)
-                (subst (λ r. StoreStep (state_of mid.kernel (state start mid.log.items).desk.makers) c call r m (objects new.origin)) (sym is) (store (state start mid.log.items).desk.makers m told)))
-            falls (λ f. cause (subst IsFault is f)) notes shares same
+        (λ m told. subst (λ s. StoreStep s c call reply m (objects new.origin)) (of_state mid.kernel (state start mid.log.items) (taken_whole objects faults start old mid w origin kernel items len grew).held)
+        (subst (λ r. StoreStep (state_of mid.kernel (state start mid.log.items).desk.makers) c call r m (objects new.origin)) (sym is) (store (state start mid.log.items).desk.makers m told)))
+        falls (λ f. cause (subst IsFault is f)) notes shares same
 
   -- a lease or session ends, which has its place in the log
   pub did_ended : (old new : Body O) (c : ℕ) (call : DepotCall) (noted : DepotNoted) (reply : DepotReply) (answer : Answer) → IsWhole objects faults start old
@@ -351,10 +354,10 @@ module _ {O : Type 0} (objects : O → Option Objects) (faults : O → ℕ) (sta
       → IsNoted call noted → (IsShared call → IsSharedEntry noted) → new.log.items ≡ grown old.log.items c noted answer.told → Did objects faults start old new c call reply
   did_ended old new c call noted reply answer w same_origin capacity fit serves is store never notes shares same =
       did objects faults start old new c call noted reply w
-          (λ m told. subst (StoreStep (state start old.log.items) c call reply m) (sym (ap objects same_origin ∙ told)) (store m told))
-          (omega (arith, ap faults same_origin)) capacity fit answer moves is notes shares
-          (λ f. let k = fault_is reply f in absurd (never k.0 (subst (DepotStep (state start old.log.items) c call) k.1 (subst (DepotStep (state start old.log.items) c call) (sym is) (first answer.told moves)))))
-          same
+      (λ m told. subst (StoreStep (state start old.log.items) c call reply m) (sym (ap objects same_origin ∙ told)) (store m told))
+      (omega (arith, ap faults same_origin)) capacity fit answer moves is notes shares
+      (λ f. let k = fault_is reply f in absurd (never k.0 (subst (DepotStep (state start old.log.items) c call) k.1 (subst (DepotStep (state start old.log.items) c call) (sym is) (first answer.told moves)))))
+      same
     where
       moves : Moves (state start old.log.items) new.kernel c call noted answer
       moves = whole_moves objects faults start old new.kernel c call noted answer w serves

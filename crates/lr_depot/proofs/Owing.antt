@@ -25,6 +25,7 @@ use Rattle.lr_depot.specs.declared.call.DepotReply.TheVariants.{NoImage, Opened,
 use Rattle.lr_depot.specs.declared.call.DepotTold.{DepotTold}
 use Rattle.lr_depot.specs.declared.call.DepotTold.TheVariants as told
 use Rattle.lr_depot.specs.Machine.{LogEntry, DepotStep, state_after, after_entry, run, IsNoted, IsTold}
+use Rattle.lr_depot.specs.Drawn.{number_told}
 use Rattle.lr_depot.specs.Owed.{Acknowledges, IsMade, IsKnown, IsOwed}
 use Rattle.lr_depot.specs.Store.{IsRun}
 use Rattle.lr_depot.proofs.Moved.{IsStill, still, fetched_still, entry_safe, run_safe, run_keeps}
@@ -57,10 +58,6 @@ module _ (v : View) (next : ℕ) (log : List LogEntry) (may : MayStart v next) (
   owed_is_homed image (inr o) = leased_home (run (started v next) log) (run_safe (started v next) log (start_safe v next may) is) o.0 image o.1 o.2
 
 -- the creation number that the log tells, if it tells one
-abbrev pub number_told : DepotTold → Option ℕ
-number_told (told.Began session root bytes number) = Some number
-number_told t = None
-
 -- A creation number that is told is the next one, and then the next is one more.
 abbrev pub IsDrawn : Option ℕ → ℕ → ℕ → Type 0
 IsDrawn None next after = after ≡ next
@@ -181,6 +178,7 @@ module _ (end : ℕ) where
 -- The creation numbers of a run begin with the next one, and ascend with their places.
 pub numbers_apart : (s : State) (log : List LogEntry) → IsRun s log → (i j : ℕ) (e f : LogEntry) (a b : ℕ) → i < j → slice_get log i ≡ Some e → slice_get log j ≡ Some f → number_told e.reply ≡ Some a → number_told f.reply ≡ Some b → (s.desk.next_number ≤ a) × (a < b)
 numbers_apart s log is i j e f a b less at_i at_j tells_a tells_b =
-    let drawn : AreDrawn s.desk.next_number log (run s log).desk.next_number = numbers_ascend s log is in
-    ((drawn_within (run s log).desk.next_number log s.desk.next_number drawn i e a at_i tells_a).0,
-    drawn_apart (run s log).desk.next_number log s.desk.next_number drawn i j e f a b less at_i at_j tells_a tells_b)
+    let drawn : AreDrawn s.desk.next_number log (run s log).desk.next_number = numbers_ascend s log is in (
+      (drawn_within (run s log).desk.next_number log s.desk.next_number drawn i e a at_i tells_a).0,
+      drawn_apart (run s log).desk.next_number log s.desk.next_number drawn i j e f a b less at_i at_j tells_a tells_b,
+    )

@@ -7,9 +7,10 @@ use Rattle.lr_origin.specs.Objects.{Objects}
 use Rattle.lr_roots.specs.Names.{IsNamed, AreFewer, IsGreatestNumber}
 use Rattle.lr_roots.specs.Catalog.{Seen as Catalog}
 use Rattle.lr_opening.specs.Listing.{HasFewer}
-use Rattle.lr_opening.specs.Store.{Mirrors}
+use Rattle.lr_opening.specs.Store.{Mirrors, HasChunks, IsSoundStore}
 use Rattle.lr_rules.specs.State.{State}
 use Rattle.lr_rules.specs.Start.{started, MayStart}
+use Rattle.lr_rules.specs.Parts.{HasParts}
 use Rattle.lr_depot.specs.declared.call.DepotCall.{DepotCall}
 use Rattle.lr_depot.specs.declared.call.DepotNoted.{DepotNoted}
 use Rattle.lr_depot.specs.declared.call.DepotReply.{DepotReply}
@@ -88,7 +89,8 @@ pub record IsStarted {O : Type 0} (objects : O → Option Objects) (faults : O �
   pub above : IsGreatestNumber d.start.view (d.start.number - 1)
 
 -- A depot as it ends: the log, the doubts and the view are those of its state, the log leads from the objects at the
--- start to those of now, and the faults that it tells of are at most the rise of the store's count.
+-- start to those of now, and the faults that it tells of are at most the rise of the store's count. The promises hold of
+-- the state, and a store that was sound is sound.
 pub record IsEnded {O : Type 0} (objects : O → Option Objects) (faults : O → ℕ) (d : Seen O) (origin : O) (left : Left) (catalog : Catalog) : Type 0 where
   pub store : origin ≡ d.origin
   pub log : left.log ≡ d.log
@@ -99,3 +101,5 @@ pub record IsEnded {O : Type 0} (objects : O → Option Objects) (faults : O →
   pub legal : IsRun (first_state d.start) d.log
   pub leads : Told d.start.objects (λ m. (n : Objects) × (objects d.origin ≡ Some n) × LeadsTo (first_state d.start) m d.log n)
   pub counted : Covers d.start.faults d.log (faults d.origin)
+  pub kept : HasParts (state d.start d.log)
+  pub sound : Told d.start.objects (λ m. HasChunks m → (n : Objects) × (objects d.origin ≡ Some n) × IsSoundStore n)

@@ -5,6 +5,7 @@ pub mod Machine
 pub mod Store
 pub mod Kernel
 pub mod Owed
+pub mod Drawn
 pub mod Others
 pub mod Left
 pub mod Begun

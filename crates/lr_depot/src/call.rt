@@ -7,21 +7,40 @@ use std::sync::Arc;
 #[derive(Drop)]
 pub enum DepotCall {
     /// Leases an image.
-    OpenImage { image: ImageName },
+    OpenImage {
+        image: ImageName,
+    },
     /// Gets a chunk of a leased image, by its index in the manifest, from the image's home of this moment.
-    Fetch { lease: u64, index: u32 },
+    Fetch {
+        lease: u64,
+        index: u32,
+    },
     /// Ends a lease.
-    Close { lease: u64 },
+    Close {
+        lease: u64,
+    },
     /// Begins to create an image in the active root.
-    BeginCreate { image: ImageName },
+    BeginCreate {
+        image: ImageName,
+    },
     /// Puts a chunk in the root into which the session puts.
-    PutChunk { session: u64, chunk: Arc<Chunk> },
+    PutChunk {
+        session: u64,
+        chunk: Arc<Chunk>,
+    },
     /// Puts the manifest of a creation and ends its session.
-    PutManifest { session: u64, manifest: Arc<Manifest> },
+    PutManifest {
+        session: u64,
+        manifest: Arc<Manifest>,
+    },
     /// Ends a session.
-    Abandon { session: u64 },
+    Abandon {
+        session: u64,
+    },
     /// Begins the next root, which becomes the active one.
-    Rotate { salt: [u8; 32] },
+    Rotate {
+        salt: [u8; 32],
+    },
     /// Ends all sessions of a caller that is gone.
     Reap,
 }
@@ -29,14 +48,33 @@ pub enum DepotCall {
 /// What the log keeps of a call: of a chunk that is put, its name.
 #[derive(Drop)]
 pub enum DepotNoted {
-    OpenImage { image: ImageName },
-    Fetch { lease: u64, index: u32 },
-    Close { lease: u64 },
-    BeginCreate { image: ImageName },
-    PutChunk { session: u64, name: Name },
-    PutManifest { session: u64, manifest: Arc<Manifest> },
-    Abandon { session: u64 },
-    Rotate { salt: [u8; 32] },
+    OpenImage {
+        image: ImageName,
+    },
+    Fetch {
+        lease: u64,
+        index: u32,
+    },
+    Close {
+        lease: u64,
+    },
+    BeginCreate {
+        image: ImageName,
+    },
+    PutChunk {
+        session: u64,
+        name: Name,
+    },
+    PutManifest {
+        session: u64,
+        manifest: Arc<Manifest>,
+    },
+    Abandon {
+        session: u64,
+    },
+    Rotate {
+        salt: [u8; 32],
+    },
     Reap,
 }
 
@@ -46,7 +84,10 @@ pub enum DepotReply {
     /// No live root has a manifest of the image, or it is withdrawn.
     NoImage,
     /// The image is leased.
-    Opened { lease: u64, manifest: Arc<Manifest> },
+    Opened {
+        lease: u64,
+        manifest: Arc<Manifest>,
+    },
     /// There is no such lease.
     NoLease,
     /// The index is past the names of the manifest.
@@ -79,13 +120,17 @@ pub enum DepotReply {
     /// The first index whose chunk isn't there.
     Missing(u32),
     /// The manifest is there, and the session ended.
-    Made { root: u32 },
+    Made {
+        root: u32,
+    },
     /// The session ended.
     Abandoned,
     /// There are 1,000 roots.
     RootsEnd,
     /// The new root.
-    Rotated { root: u32 },
+    Rotated {
+        root: u32,
+    },
     /// All sessions of the caller ended.
     Reaped,
     /// The caller has no session. Not logged.
@@ -102,7 +147,10 @@ pub enum DepotReply {
 #[derive(Drop)]
 pub enum DepotTold {
     NoImage,
-    Opened { lease: u64, manifest: Arc<Manifest> },
+    Opened {
+        lease: u64,
+        manifest: Arc<Manifest>,
+    },
     NoLease,
     NoChunk,
     Fetched(Name),
@@ -121,10 +169,14 @@ pub enum DepotTold {
     Kept,
     Nonce,
     Missing(u32),
-    Made { root: u32 },
+    Made {
+        root: u32,
+    },
     Abandoned,
     RootsEnd,
-    Rotated { root: u32 },
+    Rotated {
+        root: u32,
+    },
     Reaped,
     Fault(Key),
     Spoiled(Key),

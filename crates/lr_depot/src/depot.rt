@@ -98,14 +98,7 @@ impl<O: Origin> Body<O> {
         if !self.take_places() {
             return DepotReply::OutOfMemory;
         }
-        let answer = fetch(
-            &mut self.origin,
-            &self.kernel,
-            alloc,
-            caller,
-            lease,
-            index,
-        );
+        let answer = fetch(&mut self.origin, &self.kernel, alloc, caller, lease, index);
         finish(
             &mut self.log,
             caller,
@@ -134,12 +127,7 @@ impl<O: Origin> Body<O> {
         ensures did { (start : Start) → IsWhole O.objects O.faults start self.old → ((e : LogEntry) → HasPlace start self.old caller (call.Close lease) result e) → Did O.objects O.faults start self.old self.new caller (call.Close lease) result }
     {
         let answer = self.kernel.close(caller, lease);
-        finish(
-            &mut self.log,
-            caller,
-            DepotNoted::Close { lease },
-            answer,
-        )
+        finish(&mut self.log, caller, DepotNoted::Close { lease }, answer)
     }
 
     fn begin_create(&mut self, alloc: Global, caller: u32, image: ImageName) -> DepotReply
@@ -252,19 +240,8 @@ impl<O: Origin> Body<O> {
         if !self.take_places() {
             return DepotReply::OutOfMemory;
         }
-        let answer = rotate(
-            &mut self.origin,
-            &mut self.kernel,
-            alloc,
-            caller,
-            salt,
-        );
-        finish(
-            &mut self.log,
-            caller,
-            DepotNoted::Rotate { salt },
-            answer,
-        )
+        let answer = rotate(&mut self.origin, &mut self.kernel, alloc, caller, salt);
+        finish(&mut self.log, caller, DepotNoted::Rotate { salt }, answer)
     }
 
     fn reap(&mut self, caller: u32) -> DepotReply
@@ -327,7 +304,7 @@ impl<O: Origin> Model for Depot<O> {
 
 impl<O: Origin> Depot<O> {
     ghost use Rattle.lr_depot.specs.Depot.{first_state, state, IsStarted, IsEnded};
-    ghost use Rattle.lr_depot.specs.Store.{LeadsTo, Covers};
+    ghost use Rattle.lr_rules.specs.Parts.{HasParts};
 
     /// A depot over a store, which is listed and read; chunks are not.
     ///
@@ -368,9 +345,10 @@ impl<O: Origin> Depot<O> {
         })
     }
 
-    /// The view after the calls so far.
+    /// The view after the calls so far: it is sound, and every owed image has a home that is active or retired.
     pub fn catalog(&self) -> &Catalog
         ensures view { result.now.view ≡ (state self.now.start self.now.log).known.view }
+        ensures kept { HasParts (state self.now.start self.now.log) }
     {
         &self.body.kernel.catalog
     }
@@ -391,7 +369,9 @@ impl<O: Origin> Depot<O> {
             log,
         } = body;
         let Kernel {
-            catalog, doubts, ..
+            catalog,
+            doubts,
+            ..
         } = kernel;
         (origin, DepotLog { log, doubts }, catalog)
     }

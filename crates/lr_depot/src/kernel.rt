@@ -133,12 +133,7 @@ impl Kernel {
     }
 
     /// Begins to create an image in the active root.
-    pub(crate) fn begin_create(
-        &mut self,
-        alloc: Global,
-        caller: u32,
-        image: ImageName,
-    ) -> Answer
+    pub(crate) fn begin_create(&mut self, alloc: Global, caller: u32, image: ImageName) -> Answer
         requires ready { IsReady self.old }
         requires number { self.old.next_session + 1 < 2 ^ 64 }
         ensures served { Serves self.old self.new caller (call.BeginCreate image) (noted.BeginCreate image) result }

@@ -2,7 +2,9 @@
 //!
 //! `call` has the calls and replies, `numbered` the leases and sessions by their numbers, `doubts` the questions about
 //! puts in doubt, `put` one put with all that it does to the store and to what is known, `images` the count of image
-//! names, `depot` the object and its start and end, `log` what is left of it.
+//! names. `kernel` holds all but the store and the log, with the calls that the store isn't asked for; `asking` has
+//! those that it is. `depot` is the object with its start and end, `log` what is left of it, `laws` what holds of every
+//! depot. In `specs/`, `Machine` has the table of calls and `Store` what each does to the store.
 #![tactic(auto)]
 
 mod asking;
@@ -11,6 +13,7 @@ mod depot;
 mod doubts;
 mod images;
 mod kernel;
+mod laws;
 mod log;
 mod numbered;
 mod put;
@@ -18,6 +21,7 @@ mod start;
 
 pub use call::{DepotCall, DepotNoted, DepotReply, DepotTold};
 pub use depot::{Depot, StartError};
+pub use laws::{calls_keep_the_promise, numbers_are_drawn_once, store_stays_sound};
 pub use log::DepotLog;
 pub use lr_opening::StartCause;
 pub use start::DepotStart;

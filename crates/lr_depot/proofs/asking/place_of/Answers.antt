@@ -14,7 +14,7 @@ home_key-key-requires-clause-sound c = ready_sound c.args.kernel.now c.requires.
 pub home_key-key-requires-clause-homed : goal.home_key-key-requires-clause-homed
 home_key-key-requires-clause-homed c =
     leased_home (state_of c.args.kernel.now c.requires.ready.makers) c.requires.ready.safe c.args.lease c.entry.inside.image (arc_value c.entry.inside.manifest)
-        (sym c.get.ensures ∙ ap option_copied c.in-Some.is ∙ ap Some (sym c.entry.view_is))
+    (sym c.get.ensures ∙ ap option_copied c.in-Some.is ∙ ap Some (sym c.entry.view_is))
 
 pub returns-clause-place : goal.returns-clause-place
 returns-clause-place c = record {

@@ -13,9 +13,9 @@ of-key-requires g c = record {
 pub returns-then-has-clause-store : goal.returns-then-has-clause-store
 returns-then-has-clause-store g c = λ makers m told.
     kept_there (state_of c.args.kernel.now makers) c.args.caller c.args.session c.args.chunk c.logged-then-has.result.reply
-        c.in-Some.creation.image c.in-Some.creation.root c.in-Some.creation.number c.of-key.result c.name.result.now.bytes m _
-        c.logged-then-has.ensures.0 c.in-Some.ensures c.of-key.ensures (c.name.ensures ∙ ap sha256 c.deref-2.ensures)
-        (ap length (sym (c.bytes-body.ensures.bytes ∙ c.deref.ensures)) ∙ c.bytes-body.ensures.length) (c.has.ensures.0 c.if-has.true) told
+    c.in-Some.creation.image c.in-Some.creation.root c.in-Some.creation.number c.of-key.result c.name.result.now.bytes m _
+    c.logged-then-has.ensures.0 c.in-Some.ensures c.of-key.ensures (c.name.ensures ∙ ap sha256 c.deref-2.ensures)
+    (ap length (sym (c.bytes-body.ensures.bytes ∙ c.deref.ensures)) ∙ c.bytes-body.ensures.length) (c.has.ensures.0 c.if-has.true) told
 
 pub put_key-end-requires-clause-few : goal.put_key-end-requires-clause-few
 put_key-end-requires-clause-few g c = chunk_few c.args.kernel.now c.requires.ready _ _ _ _ c.of-key.ensures

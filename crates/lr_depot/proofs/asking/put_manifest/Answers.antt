@@ -31,10 +31,10 @@ put_key-end-requires-clause-few g c =
 pub returns-in-Kept-clause-store : goal.returns-in-Kept-clause-store
 returns-in-Kept-clause-store g c = λ makers m told.
     made_store (state_of c.args.kernel.now makers) c.args.caller c.args.session c.args.manifest.now c.logged-in-Kept.result.reply c.in-Some.creation.image c.in-Some.creation.root c.in-Some.creation.number
-        c.of-key.result c.as_slice.result.now m _ c.logged-in-Kept.ensures.0 c.in-Some.ensures
-        (ap maker_of (sym c.deref.ensures) ∙ sym c.root.ensures ∙ c.if-root-creation.false)
-        (ap number_of (sym c.deref-else-root-creation.ensures) ∙ sym c.number.ensures ∙ c.if-number-creation.false)
-        c.of-key.ensures (c.as_slice.ensures.value ∙ c.in-Ok.ensures.1 ∙ ap spelling c.deref-3.ensures) (c.in-Kept.ensures.store m told)
+    c.of-key.result c.as_slice.result.now m _ c.logged-in-Kept.ensures.0 c.in-Some.ensures
+    (ap maker_of (sym c.deref.ensures) ∙ sym c.root.ensures ∙ c.if-root-creation.false)
+    (ap number_of (sym c.deref-else-root-creation.ensures) ∙ sym c.number.ensures ∙ c.if-number-creation.false)
+    c.of-key.ensures (c.as_slice.ensures.value ∙ c.in-Ok.ensures.1 ∙ ap spelling c.deref-3.ensures) (c.in-Kept.ensures.store m told)
 
 pub returns-in-Fault-clause-served : goal.returns-in-Fault-clause-served
 returns-in-Fault-clause-served g c = λ makers.
@@ -48,12 +48,12 @@ returns-in-Fault-clause-served g c = λ makers.
       whole = subst (IsComplete c.args.kernel.now.catalog.view c.in-Some.creation.root) c.deref-2.ensures c.in_default-missing.ensures;
     } in
     moves_logged (state_of c.args.kernel.now makers)
-        (record { catalog = c.put_key-end.new.catalog; doubts = c.put_key-end.new.doubts; leases = c.args.kernel.now.leases; sessions = c.args.kernel.now.sessions; next_lease = c.args.kernel.now.next_lease; next_session = c.args.kernel.now.next_session; next_number = c.args.kernel.now.next_number })
-        c.args.caller (PutManifest c.args.session c.args.manifest.now) (noted.PutManifest c.args.session c.args.manifest.now) c.logged-in-Fault.result
-        (reply.Fault (Manifest c.in-Some.creation.root c.in-Some.creation.image)) (told.Fault (Manifest c.in-Some.creation.root c.in-Some.creation.image))
-        (c.logged-in-Fault.ensures.0 ∙ ap reply.Fault c.of-key.ensures, c.logged-in-Fault.ensures.1 ∙ ap (λ k. Some (told.Fault k)) c.of-key.ensures)
-        (c.in-Some.creation.image, c.in-Some.creation.root, c.in-Some.creation.number, may, refl) refl refl
-        (known_after _ (state_after (state_of c.args.kernel.now makers) c.args.caller (noted.PutManifest c.args.session c.args.manifest.now) (told.Fault (Manifest c.in-Some.creation.root c.in-Some.creation.image)))
-            c.put_key-end.ensures.aside
-            (c.in-Fault.ensures.known ∙ ap (λ k. doubting known k (manifest (arc_value c.in-Ok-try_clone.handle))) c.of-key.ensures ∙ ap (λ m. doubting known (Manifest c.in-Some.creation.root c.in-Some.creation.image) (manifest m)) c.in-Ok-try_clone.ensures)
-            refl refl refl refl refl)
+    (record { catalog = c.put_key-end.new.catalog; doubts = c.put_key-end.new.doubts; leases = c.args.kernel.now.leases; sessions = c.args.kernel.now.sessions; next_lease = c.args.kernel.now.next_lease; next_session = c.args.kernel.now.next_session; next_number = c.args.kernel.now.next_number })
+    c.args.caller (PutManifest c.args.session c.args.manifest.now) (noted.PutManifest c.args.session c.args.manifest.now) c.logged-in-Fault.result
+    (reply.Fault (Manifest c.in-Some.creation.root c.in-Some.creation.image)) (told.Fault (Manifest c.in-Some.creation.root c.in-Some.creation.image))
+    (c.logged-in-Fault.ensures.0 ∙ ap reply.Fault c.of-key.ensures, c.logged-in-Fault.ensures.1 ∙ ap (λ k. Some (told.Fault k)) c.of-key.ensures)
+    (c.in-Some.creation.image, c.in-Some.creation.root, c.in-Some.creation.number, may, refl) refl refl
+    (known_after _ (state_after (state_of c.args.kernel.now makers) c.args.caller (noted.PutManifest c.args.session c.args.manifest.now) (told.Fault (Manifest c.in-Some.creation.root c.in-Some.creation.image)))
+    c.put_key-end.ensures.aside
+    (c.in-Fault.ensures.known ∙ ap (λ k. doubting known k (manifest (arc_value c.in-Ok-try_clone.handle))) c.of-key.ensures ∙ ap (λ m. doubting known (Manifest c.in-Some.creation.root c.in-Some.creation.image) (manifest m)) c.in-Ok-try_clone.ensures)
+    refl refl refl refl refl)

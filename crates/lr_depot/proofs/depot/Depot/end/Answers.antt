@@ -1,5 +1,9 @@
 use Rattle.std.proofs.Common.{refl, ap}
 use Rattle.std.specs.FinMap as map
+use Rattle.lr_rules.proofs.Parts.{safe_parts}
+use Rattle.lr_depot.specs.Depot.{state}
+use Rattle.lr_depot.proofs.Did.{whole_safe}
+use Rattle.lr_depot.proofs.Followed.{closing_sound}
 use Rattle.lr_depot.proofs.depot.Depot.end.Goals as goal
 
 pub returns : goal.returns
@@ -14,5 +18,9 @@ returns g c = rw (← c.self.view_is) (record {
     legal = c.self.invariant.legal;
     leads = c.self.invariant.leads;
     counted = c.self.invariant.counted;
+    kept = safe_parts _ (whole_safe g.O.Origin.objects g.O.Origin.faults _ c.self.inside.body c.self.invariant);
+    sound = λ m told chunks.
+        let l = c.self.invariant.leads m told in
+        (l.0, l.1, closing_sound _ _ m c.self.inside.body.log.items l.0 c.self.invariant.begun.may (c.self.invariant.begun.mirrors m told) chunks l.2);
   };
 })

@@ -20,13 +20,13 @@ pub invariant_of-result : goal.invariant_of-result
 invariant_of-result g c =
     let found : c.of-found.result.value.view ≡ c.in-Ok.catalog.view = ap (λ (s : Seen). s.view) c.of-found.ensures in
     started_whole g.O.Origin.objects g.O.Origin.faults _ _
-        (is_start _ c.in-Ok.catalog.view c.greatest_number.result found c.of-number.ensures c.in-Ok.ensures.sound c.in-Ok.ensures.names c.greatest_number.ensures
-            (λ m told. (c.in-Ok.ensures.whole m (ap g.O.Origin.objects (sym c.of-opening.ensures) ∙ told)).0))
-        (c.open.ensures.same ∙ ap g.O.Origin.objects (sym c.of-opening.ensures))
-        (subst (λ o. g.O.Origin.faults o ≤ g.O.Origin.faults c.open.new.origin) (sym c.of-opening.ensures) c.open.ensures.never_falls)
-        c.new-4.ensures.items
-        (record { aside = c.in-Ok.ensures.aside; view = sym found; doubts = c.new.ensures; leases = c.new-2.ensures; sessions = c.new-3.ensures; next_lease = refl; next_session = refl; next_number = sym c.of-number.ensures })
-        (omega (arith, ap map.len c.new-2.ensures, ap map.len c.new-3.ensures, len-empty nat_cmp (List ℕ × Fields), len-empty nat_cmp Session))
+    (is_start _ c.in-Ok.catalog.view c.greatest_number.result found c.of-number.ensures c.in-Ok.ensures.sound c.in-Ok.ensures.names c.greatest_number.ensures
+    (λ m told. (c.in-Ok.ensures.whole m (ap g.O.Origin.objects (sym c.of-opening.ensures) ∙ told)).0))
+    (c.open.ensures.same ∙ ap g.O.Origin.objects (sym c.of-opening.ensures))
+    (subst (λ o. g.O.Origin.faults o ≤ g.O.Origin.faults c.open.new.origin) (sym c.of-opening.ensures) c.open.ensures.never_falls)
+    c.new-4.ensures.items
+    (record { aside = c.in-Ok.ensures.aside; view = sym found; doubts = c.new.ensures; leases = c.new-2.ensures; sessions = c.new-3.ensures; next_lease = refl; next_session = refl; next_number = sym c.of-number.ensures })
+    (omega (arith, ap map.len c.new-2.ensures, ap map.len c.new-3.ensures, len-empty nat_cmp (List ℕ × Fields), len-empty nat_cmp Session))
 
 pub returns-clause-started : goal.returns-clause-started
 returns-clause-started g c =

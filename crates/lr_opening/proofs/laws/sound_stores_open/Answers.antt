@@ -1,0 +1,6 @@
+use Rattle.lr_opening.proofs.Ruled.{sound_has_none_foreign}
+use Rattle.lr_opening.proofs.Views.{one_view, sound_store_is_not_foreign}
+use Rattle.lr_opening.proofs.laws.sound_stores_open.Goals as goal
+
+pub returns : goal.returns
+returns c = record { one_view = one_view; rules = sound_has_none_foreign; keys = sound_store_is_not_foreign }
