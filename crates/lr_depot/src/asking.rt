@@ -136,6 +136,9 @@ pub(crate) fn put_chunk<O: Origin>(
     if kernel.catalog.has(&key) {
         return logged(DepotReply::Kept, DepotTold::Kept);
     }
+    let Ok(handle) = Arc::try_clone(&chunk) else {
+        return Answer::no_memory();
+    };
     let end = put_key(
         origin,
         &mut kernel.catalog,
@@ -143,6 +146,7 @@ pub(crate) fn put_chunk<O: Origin>(
         alloc,
         key,
         Kept::Empty,
+        Kept::Chunk(handle),
         body,
     );
     match end {
@@ -184,7 +188,7 @@ pub(crate) fn put_manifest<O: Origin>(
     let Ok(body) = manifest.print(alloc) else {
         return Answer::no_memory();
     };
-    let Ok(handle) = Arc::try_clone(manifest) else {
+    let (Ok(handle), Ok(doubt)) = (Arc::try_clone(manifest), Arc::try_clone(manifest)) else {
         return Answer::no_memory();
     };
     let end = put_key(
@@ -194,6 +198,7 @@ pub(crate) fn put_manifest<O: Origin>(
         alloc,
         key,
         Kept::Manifest(handle),
+        Kept::Manifest(doubt),
         body.as_slice(),
     );
     match end {
@@ -246,6 +251,7 @@ pub(crate) fn rotate<O: Origin>(
         &mut kernel.doubts,
         alloc,
         key,
+        Kept::Salt(salt),
         Kept::Salt(salt),
         body,
     );

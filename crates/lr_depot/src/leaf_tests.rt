@@ -61,7 +61,16 @@ fn put(
     if catalog.has(&key) || !has_room(catalog) || !is_plain(doubts, &key) {
         return Err("the key can't be put".into());
     }
-    Ok(put_key(origin, catalog, doubts, alloc, key, Kept::Empty, b""))
+    Ok(put_key(
+        origin,
+        catalog,
+        doubts,
+        alloc,
+        key,
+        Kept::Empty,
+        Kept::Empty,
+        b"",
+    ))
 }
 
 #[test]

@@ -1,5 +1,5 @@
 //! One put, with all that it does to the store and to what is known.
-ghost use Rattle.std.specs.Prelude.{◌≡◌, ◌≤◌, ◌^◌, Some, None, IfOk, OnOk, OnErr};
+ghost use Rattle.std.specs.Prelude.{◌≡◌, ◌≤◌, ◌^◌, Some, None, OnOk, OnErr};
 ghost use Rattle.std.specs.FinMap as map;
 ghost use Rattle.lr_spec.specs.Rose.{Rose};
 ghost use Rattle.lr_spec.specs.Told.{Told};
@@ -15,7 +15,6 @@ use lr_origin::{Key, Origin, OriginError, Put};
 use lr_roots::{Catalog, Kept, Keys};
 use lr_spec::OutOfMemory;
 use std::alloc::Global;
-use std::sync::Arc;
 
 /// How a put ended.
 #[derive(Clone, Copy, Debug, PartialEq, Eq)]
@@ -29,17 +28,6 @@ pub(crate) enum PutEnd {
     OutOfMemory,
 }
 
-// A second handle on what is kept.
-fn twin(kept: &Kept) -> Result<Kept, OutOfMemory>
-    ensures { IfOk result (λ other. plain other ≡ plain kept.now) }
-{
-    match kept {
-        Kept::Salt(salt) => Ok(Kept::Salt(*salt)),
-        Kept::Manifest(manifest) => Ok(Kept::Manifest(Arc::try_clone(manifest)?)),
-        Kept::Empty => Ok(Kept::Empty),
-    }
-}
-
 // Takes all memory of a put: the key stands aside, and its put is noted as in doubt. After an error nothing changed.
 fn begin(
     catalog: &mut Catalog,
@@ -47,18 +35,19 @@ fn begin(
     alloc: Global,
     key: Key,
     kept: Kept,
+    doubt: Kept,
 ) -> Result<(), OutOfMemory>
     requires aside { catalog.old.aside ≡ None }
     requires absent { Lacks catalog.old.view key }
     requires fits { Fits key (plain kept) }
     requires few { AreFewer (IsNamed (map.insert catalog.old.view key (plain kept))) (2 ^ 32) }
+    requires alike { plain doubt ≡ plain kept }
     ensures aside { OnOk result (catalog.new ≡ record { view = catalog.old.view; aside = Some (key, plain kept) }) }
     ensures noted { OnOk result (doubts.new ≡ map.insert doubts.old key (plain kept)) }
     ensures err { OnErr result ((catalog.new ≡ catalog.old) × (doubts.new ≡ doubts.old)) }
 {
-    let noted = twin(&kept)?;
     catalog.prepare(alloc, key, kept)?;
-    if doubts.insert(key, noted).is_err() {
+    if doubts.insert(key, doubt).is_err() {
         catalog.forget();
         return Err(OutOfMemory);
     }
@@ -67,7 +56,8 @@ fn begin(
 
 /// Puts an object whose key the view hasn't. Where its put is in doubt, both answers of the store tell that it is there.
 ///
-/// All memory, the doubt's too, is taken before the store is called.
+/// The catalog keeps `kept`, and the doubts keep `doubt`, which is the same to a contract. All memory, the doubt's too,
+/// is taken before the store is called.
 pub(crate) fn put_key<O: Origin>(
     origin: &mut O,
     catalog: &mut Catalog,
@@ -75,12 +65,14 @@ pub(crate) fn put_key<O: Origin>(
     alloc: Global,
     key: Key,
     kept: Kept,
+    doubt: Kept,
     body: &[u8],
 ) -> PutEnd
     requires aside { catalog.old.aside ≡ None }
     requires absent { Lacks catalog.old.view key }
     requires fits { Fits key (plain kept) }
     requires few { AreFewer (IsNamed (map.insert catalog.old.view key (plain kept))) (2 ^ 32) }
+    requires alike { plain doubt ≡ plain kept }
     requires again { (x : Held) → map.get doubts.old key ≡ Some x → x ≡ plain kept }
     ensures known { PutsKey (record { view = catalog.old.view; doubts = doubts.old }) key (plain kept) result (record { view = catalog.new.view; doubts = doubts.new }) }
     ensures aside { catalog.new.aside ≡ None }
@@ -89,7 +81,7 @@ pub(crate) fn put_key<O: Origin>(
     ensures cause { result ≡ PutEnd.Fault → Rose (O.faults origin.old) (O.faults origin.new) }
 {
     let again = is_in_doubt(doubts, &key);
-    if begin(catalog, doubts, alloc, key, kept).is_err() {
+    if begin(catalog, doubts, alloc, key, kept, doubt).is_err() {
         return PutEnd::OutOfMemory;
     }
     match origin.put(alloc, key.as_bytes(), body) {

@@ -55,5 +55,5 @@ returns-in-Fault-clause-served g c = λ makers.
     (c.in-Some.creation.image, c.in-Some.creation.root, c.in-Some.creation.number, may, refl) refl refl
     (known_after _ (state_after (state_of c.args.kernel.now makers) c.args.caller (noted.PutManifest c.args.session c.args.manifest.now) (told.Fault (Manifest c.in-Some.creation.root c.in-Some.creation.image)))
     c.put_key-end.ensures.aside
-    (c.in-Fault.ensures.known ∙ ap (λ k. doubting known k (manifest (arc_value c.in-Ok-try_clone.handle))) c.of-key.ensures ∙ ap (λ m. doubting known (Manifest c.in-Some.creation.root c.in-Some.creation.image) (manifest m)) c.in-Ok-try_clone.ensures)
+    (c.in-Fault.ensures.known ∙ ap (λ k. doubting known k (manifest (arc_value c.in-Ok-Ok.handle))) c.of-key.ensures ∙ ap (λ m. doubting known (Manifest c.in-Some.creation.root c.in-Some.creation.image) (manifest m)) c.in-Ok-Ok.ensures)
     refl refl refl refl refl)
