@@ -24,3 +24,6 @@ pub use start::DepotStart;
 
 #[cfg(test)]
 mod leaf_tests;
+
+#[cfg(test)]
+mod tests;
