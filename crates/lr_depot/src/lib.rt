@@ -24,6 +24,5 @@ pub use start::DepotStart;
 
 #[cfg(test)]
 mod leaf_tests;
-
 #[cfg(test)]
 mod tests;
