@@ -1,3 +1,5 @@
+ghost use Rattle.std.specs.Prelude.{◌≡◌};
+
 use crate::{Depot, DepotCall, DepotNoted, DepotReply, DepotTold, StartCause, StartError};
 use lr_manifest::{CHUNK, Chunk, Manifest};
 use lr_object::{Entry, Object};
@@ -356,6 +358,18 @@ fn left_of(
     }))
 }
 
+// Makes the calls on a store that fails the first put of a key. Whether its put is in doubt, and the object is there
+// where the put had its effect.
+fn is_doubted(alloc: Global, key: &[u8], steps: &[Step], done: bool) -> Result<bool, Fail> {
+    let origin = fails_once(alloc, Op::Put, key, done)?;
+    let left = Left {
+        in_doubt: true,
+        in_view: false,
+        in_store: done,
+    };
+    Ok(left_of(alloc, origin, steps, key)? == Some(left))
+}
+
 #[test]
 fn a_failed_put_is_in_doubt(rt: HostRuntime) -> Result<(), Fail> {
     let root: [Step; 3] = [
@@ -379,21 +393,10 @@ fn a_failed_put_is_in_doubt(rt: HostRuntime) -> Result<(), Fail> {
         (1, Ask::Abandon(1), "abandoned", 0),
         (1, Ask::Begin(b"a"), "doubt", 0),
     ];
-    let runs: [(&[u8], &[Step]); 3] = [
-        (ROOT, &root),
-        (CHUNK_IN_ROOT, &chunk),
-        (A_IN_ROOT, &manifest),
-    ];
     for done in [false, true] {
-        for (key, steps) in runs {
-            let origin = fails_once(rt.alloc(), Op::Put, key, done)?;
-            let left = Left {
-                in_doubt: true,
-                in_view: false,
-                in_store: done,
-            };
-            assert_eq!(rt; left_of(rt.alloc(), origin, steps, key)?, Some(left));
-        }
+        assert!(rt; is_doubted(rt.alloc(), ROOT, &root, done)?);
+        assert!(rt; is_doubted(rt.alloc(), CHUNK_IN_ROOT, &chunk, done)?);
+        assert!(rt; is_doubted(rt.alloc(), A_IN_ROOT, &manifest, done)?);
     }
     Ok(())
 }
@@ -521,6 +524,13 @@ fn there_are_1_000_roots(rt: HostRuntime) -> Result<(), Fail> {
     Ok(())
 }
 
+fn is_foreign(cause: &StartCause, text: &[u8]) -> bool {
+    match cause {
+        StartCause::Foreign(key) => key.as_slice() == text,
+        _ => false,
+    }
+}
+
 #[test]
 fn a_foreign_key_hands_the_store_back(rt: HostRuntime) -> Result<(), Fail> {
     let alloc = rt.alloc();
@@ -530,7 +540,7 @@ fn a_foreign_key_hands_the_store_back(rt: HostRuntime) -> Result<(), Fail> {
         return Err("the depot started".into());
     };
     let StartError { cause, mut origin } = error;
-    assert!(rt; matches!(cause, StartCause::Foreign(key) if key.as_slice() == b"x".as_slice()));
+    assert!(rt; is_foreign(&cause, b"x"));
     assert!(rt; origin.get(alloc, b"x")?.is_some());
     Ok(())
 }
