@@ -28,3 +28,5 @@ pub use start::DepotStart;
 
 #[cfg(test)]
 mod leaf_tests;
+#[cfg(test)]
+mod tests;
