@@ -24,10 +24,10 @@ use Rattle.lr_depot.specs.declared.depot.Body.{Body}
 use Rattle.lr_depot.specs.declared.kernel.Kernel.{Kernel}
 use Rattle.lr_depot.specs.declared.kernel.Answer.{Answer}
 use Rattle.lr_depot.specs.Begun.{Start}
-use Rattle.lr_depot.specs.Machine.{LogEntry, HasNone, DepotStep, Enters, IsNoted, IsTold, IsShared, IsSharedEntry, state_after, after_entry, run, is_logged}
+use Rattle.lr_depot.specs.Machine.{LogEntry, HasNone, DepotStep, Enters, IsNoted, IsTold, IsShared, IsSharedEntry, state_after, is_logged}
 use Rattle.lr_depot.specs.Store.{StoreStep, IsRun, LeadsTo, IsFault, is_fault, tells_fault, Covers}
-use Rattle.lr_depot.specs.Kernel.{IsOf, IsReady, Moves, MovesBy, Serves, state_of, held, places}
-use Rattle.lr_depot.specs.Depot.{IsWhole, HasPlace, Did, IsStart, first_state, state, grown}
+use Rattle.lr_depot.specs.Kernel.{IsOf, IsReady, Moves, MovesBy, Serves, state_of, places}
+use Rattle.lr_depot.specs.Depot.{IsWhole, HasPlace, Did, first_state, state, grown}
 use Rattle.lr_depot.proofs.Logged.{run_more, is_run_more, leads_more, store_tells, covers_fault, covers_more}
 use Rattle.lr_depot.proofs.Moved.{run_safe, run_room}
 use Rattle.lr_depot.proofs.NextNumbers.{next_more}

@@ -1,5 +1,5 @@
 -- The end of a lease or session leaves a place in the log.
-use Rattle.std.proofs.Common.{◌≡◌, ◌≤◌, ◌+◌, ℕ, Option, Some, None, IsSome, refl, sym, ap, subst, ◌∙◌}
+use Rattle.std.proofs.Common.{◌≡◌, ◌≤◌, ◌+◌, ℕ, Option, Some, None, IsSome, sym, subst}
 use Rattle.std.specs.FinMap as map
 use Rattle.lr_rules.specs.State.{Job, State, Holds}
 use Rattle.lr_depot.specs.declared.call.DepotCall.TheVariants.{Close, Abandon, Reap}

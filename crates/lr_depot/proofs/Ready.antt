@@ -1,16 +1,16 @@
 -- What holds of a depot that is ready.
-use Rattle.std.proofs.Common.{◌≡◌, ◌≤◌, ◌<◌, ◌+◌, ◌^◌, ℕ, Bool, true, false, List, length, Option, Some, None, IsSome, IsTrue, refl, sym, ap, subst, ◌∙◌, inl, inr, arith}
+use Rattle.std.proofs.Common.{◌≡◌, ◌≤◌, ◌<◌, ◌+◌, ◌^◌, ℕ, Bool, true, false, List, length, Option, Some, None, IsSome, IsTrue, refl, sym, ap, subst, inl, inr, arith}
 use Rattle.std.specs.FinMap as map
 use Rattle.lr_origin.specs.declared.key.KeyKind.{KeyKind}
-use Rattle.lr_origin.specs.declared.key.KeyKind.TheVariants.{Root, Expired, Deleted, Chunk, Manifest, Withdrawn}
-use Rattle.lr_origin.specs.Text.{IsKind, IsRoot}
+use Rattle.lr_origin.specs.declared.key.KeyKind.TheVariants.{Root, Chunk, Manifest}
+use Rattle.lr_origin.specs.Text.{IsRoot}
 use Rattle.lr_roots.specs.View.{View, Held, salt, manifest, bare, Has, Lacks, Fits}
 use Rattle.lr_manifest.specs.Manifest.{Fields}
 use Rattle.lr_roots.specs.Catalog.{salt_of, manifest_of}
 use Rattle.lr_roots.specs.Roots.{IsTop, RootsAre}
 use Rattle.lr_roots.specs.Names.{Names, IsNamed, AreFewer}
 use Rattle.lr_roots.specs.Sound.{IsSound}
-use Rattle.lr_rules.specs.State.{State, Creates, Holds}
+use Rattle.lr_rules.specs.State.{State, Creates}
 use Rattle.lr_rules.specs.Known.{Known}
 use Rattle.lr_rules.specs.Calls.{MayRotate}
 use Rattle.lr_rules.specs.Names.{IsImage}

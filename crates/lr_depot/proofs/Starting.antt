@@ -1,7 +1,6 @@
 -- A depot as it starts.
-use Rattle.std.proofs.Common.{◌≡◌, ◌≤◌, ◌<◌, ◌+◌, ◌^◌, ℕ, List, [], Option, Some, None, refl, sym, ap, subst, ◌∙◌, inl, inr, arith, vec_len}
+use Rattle.std.proofs.Common.{◌≡◌, ◌≤◌, ◌+◌, ◌^◌, ℕ, [], Option, refl, sym, subst, ◌∙◌, inl, inr, arith, vec_len}
 use mathlib.Core.Logic.{◌⊎◌}
-use Rattle.std.specs.FinMap as map
 use Rattle.lr_manifest.specs.Manifest.{Fields, IsManifest}
 use Rattle.lr_origin.specs.declared.key.KeyKind.{KeyKind}
 use Rattle.lr_origin.specs.declared.key.KeyKind.TheVariants.{Root, Expired, Deleted, Chunk, Manifest, Withdrawn}

@@ -6,12 +6,10 @@ use Rattle.std.specs.declared.sync.Arc.{Arc}
 use Rattle.std.specs.declared.alloc.Global.{Global}
 use Rattle.lr_manifest.specs.Manifest.{Fields}
 use Rattle.lr_origin.specs.declared.key.KeyKind.TheVariants.{Manifest, Withdrawn}
-use Rattle.lr_roots.specs.View.{View, manifest, Lacks}
+use Rattle.lr_roots.specs.View.{manifest, Lacks}
 use Rattle.lr_roots.specs.Roots.{IsLive}
 use Rattle.lr_rules.specs.State.{Creates, State, Holds}
-use Rattle.lr_depot.specs.declared.call.DepotNoted.{DepotNoted}
 use Rattle.lr_depot.specs.declared.call.DepotNoted.TheVariants.{PutManifest}
-use Rattle.lr_depot.specs.declared.call.DepotTold.{DepotTold}
 use Rattle.lr_depot.specs.declared.call.DepotTold.TheVariants.{Made}
 use Rattle.lr_depot.specs.Machine.{LogEntry, after_entry, run}
 

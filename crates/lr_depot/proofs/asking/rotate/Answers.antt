@@ -1,4 +1,4 @@
-use Rattle.std.proofs.Common.{◌≡◌, ◌≤◌, ◌<◌, ◌+◌, List, length, refl, sym, ap, ◌∙◌, arith}
+use Rattle.std.proofs.Common.{◌+◌, length, refl, sym, ap, ◌∙◌, arith}
 use Rattle.lr_roots.specs.View.{salt}
 use Rattle.lr_rules.specs.Known.{accepted}
 use Rattle.lr_rules.specs.Calls.{MayRotate}

@@ -1,6 +1,5 @@
-use Rattle.std.proofs.Common.{◌≡◌, ◌≤◌, ◌<◌, ◌+◌, ℕ, Some, refl, sym, ap, ◌∙◌, arith}
+use Rattle.std.proofs.Common.{arith}
 use Rattle.lr_depot.specs.declared.call.DepotCall.TheVariants as call
-use Rattle.lr_depot.specs.declared.call.DepotNoted.TheVariants as noted
 use Rattle.lr_depot.specs.Depot.{state}
 use Rattle.lr_depot.proofs.Ready.{is_not}
 use Rattle.lr_depot.proofs.Whole.{of_places}

@@ -1,4 +1,4 @@
-use Rattle.std.proofs.Common.{◌≡◌, ◌≤◌, ◌<◌, ◌+◌, ℕ, Some, refl, sym, ap, ◌∙◌, arith}
+use Rattle.std.proofs.Common.{refl}
 use Rattle.lr_depot.specs.declared.call.DepotCall.TheVariants as call
 use Rattle.lr_depot.specs.declared.call.DepotNoted.TheVariants as noted
 use Rattle.lr_depot.proofs.Did.{whole_ready, taken_whole, did_none, did_asked}

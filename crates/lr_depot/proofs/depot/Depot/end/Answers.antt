@@ -1,7 +1,6 @@
 use Rattle.std.proofs.Common.{refl, ap}
 use Rattle.std.specs.FinMap as map
 use Rattle.lr_rules.proofs.Parts.{safe_parts}
-use Rattle.lr_depot.specs.Depot.{state}
 use Rattle.lr_depot.proofs.Did.{whole_safe}
 use Rattle.lr_depot.proofs.Followed.{closing_sound}
 use Rattle.lr_depot.proofs.depot.Depot.end.Goals as goal

@@ -1,16 +1,12 @@
-use Rattle.std.proofs.Common.{◌≡◌, ◌≤◌, ◌+◌, ◌-◌, ◌^◌, ℕ, List, refl, sym, ap, subst, ◌∙◌, inl, inr, arith}
+use Rattle.std.proofs.Common.{◌≡◌, ◌≤◌, ◌+◌, ◌-◌, ℕ, List, refl, sym, ap, subst, ◌∙◌, arith}
 use Rattle.std.specs.FinMap as map
 use Rattle.std.specs.FinMap.{len-empty}
 use Rattle.std.specs.Ordering.{nat_cmp}
 use Rattle.lr_roots.specs.Catalog.{Seen}
-use Rattle.lr_roots.specs.View.{View}
-use Rattle.lr_roots.specs.Names.{AreFewer, IsNamed, IsGreatestNumber}
-use Rattle.lr_opening.specs.Store.{Mirrors}
+use Rattle.lr_roots.specs.Names.{IsGreatestNumber}
 use Rattle.lr_manifest.specs.Manifest.{Fields}
 use Rattle.lr_rules.specs.State.{Session}
-use Rattle.lr_rules.specs.Start.{MayStart}
-use Rattle.lr_depot.specs.Depot.{IsStart}
-use Rattle.lr_depot.proofs.Starting.{greatest_within, may_start, started_whole, is_start}
+use Rattle.lr_depot.proofs.Starting.{greatest_within, started_whole, is_start}
 use Rattle.lr_depot.proofs.depot.Depot.start.Goals as goal
 
 pub overflow_add-next_number : goal.overflow_add-next_number

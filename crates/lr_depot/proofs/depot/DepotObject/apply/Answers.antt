@@ -1,4 +1,3 @@
-use Rattle.std.proofs.Common.{refl, ap}
 use Rattle.lr_depot.proofs.depot.DepotObject.apply.Goals as goal
 
 pub invariant_of-self : goal.invariant_of-self

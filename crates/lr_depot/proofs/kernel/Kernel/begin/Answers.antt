@@ -1,5 +1,4 @@
-use Rattle.std.proofs.Common.{◌≤◌, ◌+◌, refl, sym, ap, subst, ◌∙◌, arith}
-use Rattle.lr_depot.specs.declared.kernel.Kernel.{Kernel}
+use Rattle.std.proofs.Common.{◌+◌, refl, arith}
 use Rattle.lr_depot.specs.declared.call.DepotCall.TheVariants as call
 use Rattle.lr_depot.specs.declared.call.DepotNoted.TheVariants as noted
 use Rattle.lr_depot.specs.declared.call.DepotReply.TheVariants as reply

@@ -1,4 +1,4 @@
-use Rattle.std.proofs.Common.{◌≡◌, ◌≤◌, ◌<◌, IsTrue, refl, subst, inl, inr, arith}
+use Rattle.std.proofs.Common.{IsTrue, refl, subst, inl, inr, arith}
 use Rattle.lr_text.specs.Name.{is_name}
 use Rattle.lr_rules.specs.Names.{IsImage}
 use Rattle.lr_depot.specs.declared.call.DepotCall.TheVariants.{BeginCreate}
