@@ -179,6 +179,22 @@ fn fails_at(alloc: Global, op: Op, key: &[u8]) -> Result<MemOrigin, Fail> {
     Ok(store)
 }
 
+#[test]
+fn chunks_are_not_read(rt: HostRuntime) -> Result<(), Fail> {
+    let alloc = rt.alloc();
+    let mut fails = Vec::new(alloc);
+    fails.push(Failure {
+        op: Op::Get,
+        key: CHUNK_1.to_vec(alloc)?,
+        nth: 1,
+        done: false,
+    })?;
+    let mut store = MemOrigin::failing(alloc, fails);
+    fill(alloc, &mut store, &[(ROOT_1, SALT), (CHUNK_1, NOTHING)])?;
+    assert!(rt; open(alloc, &mut store).is_ok_and(|catalog| catalog.counts(1) == (0, 1)));
+    Ok(())
+}
+
 fn is_fault_at(cause: &StartCause, text: &[u8]) -> bool {
     match cause {
         StartCause::Fault(Some(key)) => key.as_bytes() == text,
