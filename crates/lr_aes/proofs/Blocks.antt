@@ -7,7 +7,7 @@ use Rattle.std.proofs.lemmas.Bool.{cases_lt, eqb-true}
 use Rattle.std.proofs.lemmas.Nat.{xor_lt}
 use Rattle.std.proofs.lemmas.Nat.Bits.{bit_at-lt, bit_at-pow_same, bit_at-pow_other}
 use Rattle.lr_field.proofs.Linear.{Additive, additive-zero, additive-same, bit_gate, xor_swap}
-use Rattle.lr_field.proofs.Computed.{all_below, all_below-at}
+use Rattle.lr_field.proofs.AllBelow.{all_below, all_below-at}
 use Rattle.lr_aes.specs.Ghash.{times_x, shifted, partial_product, block_product, power, ghash}
 use Rattle.lr_aes.specs.Products.{running}
 

@@ -1,83 +1,50 @@
 -- inc32 is the count of 128 bits while the last 32 bits don't wrap.
-use Rattle.std.proofs.Common.{◌≡◌, ℕ, zero, suc, ◌+◌, ◌-◌, ◌*◌, ◌/◌, ◌%◌, ◌^◌, ◌<◌, ◌≤◌, List, [], ◌∷◌, ◌++◌, length, take, drop, get_or, slice_index, bit_xor, refl, sym, ap, subst, ◌∙◌, arith, lit<}
+use Rattle.std.proofs.Common.{◌≡◌, ℕ, zero, suc, ◌+◌, ◌-◌, ◌*◌, ◌/◌, ◌%◌, ◌^◌, ◌<◌, ◌≤◌, List, [], ◌∷◌, ◌++◌, length, take, drop, get_or, slice_index, bit_xor, refl, sym, ap, subst, ◌∙◌, arith, lit<, inl, inr, pow-suc}
 use Rattle.std.specs.Int.{w32, w64, w128, from_be_bytes, to_be_bytes}
-use Rattle.std.proofs.lemmas.Nat.{be_bytes_8, from_be_bytes-to_be_bytes_4}
-use Rattle.std.proofs.Math.Nat.{div-div-eq-div-mul}
+use Rattle.std.specs.Prelude.{nat_lt, if◌then◌else◌}
+use Rattle.std.proofs.lemmas.Bool.{cases_lt, lt-ltb, le-ltb}
+use Rattle.std.proofs.lemmas.Nat.{be_bytes_8, from_be_bytes-to_be_bytes_4, pow-add}
+use Rattle.std.proofs.Math.Nat.{add_comm, mul_assoc, div-div-eq-div-mul, add-mul-div_right, add-mul-mod_self_right}
 use Rattle.std.proofs.Math.Seq.{take-append_seam, drop-append_seam}
 use Rattle.lr_field.specs.Polynomial.{AreBytes}
 use Rattle.lr_aes.specs.Counter.{counter_at, stream_byte, with_stream, counter_mode}
-use Rattle.lr_aes.specs.Gcm.{inc32, inc32_by, first_block, gctr, gcm_text}
+use Rattle.lr_aes.specs.Gcm.{inc32, inc32_by, first_counter, gctr, gcm_text}
 
 bytes_at : (bs : List ℕ) → AreBytes bs → (i : ℕ) → get_or bs i 0 < 256
 bytes_at [] h i = lit< tt
 bytes_at (b ∷ bs) h zero = h.0
 bytes_at (b ∷ bs) h (suc i) = bytes_at bs h.1 i
 
--- a number of 128 bits by its halves
-high_7 : (x y : ℕ) → y < 2 ^ 64 → (x * 2 ^ 64 + y) / 256 ^ 15 % 256 ≡ x / 256 ^ 7 % 256
-high_7 x y ly =
-    let half : (x * 2 ^ 64 + y) / 2 ^ 64 ≡ x = omega arith in
-    ap (λ (n : ℕ). n % 256) (sym (div-div-eq-div-mul (x * 2 ^ 64 + y) (2 ^ 64) (256 ^ 7)) ∙ ap (λ (n : ℕ). n / 256 ^ 7) half)
+some : (k : ℕ) → 0 < 256 ^ k
+some zero = lit< tt
+some (suc k) = omega (arith, pow-suc 256 k, some k)
 
-high_6 : (x y : ℕ) → y < 2 ^ 64 → (x * 2 ^ 64 + y) / 256 ^ 14 % 256 ≡ x / 256 ^ 6 % 256
-high_6 x y ly =
-    let half : (x * 2 ^ 64 + y) / 2 ^ 64 ≡ x = omega arith in
-    ap (λ (n : ℕ). n % 256) (sym (div-div-eq-div-mul (x * 2 ^ 64 + y) (2 ^ 64) (256 ^ 6)) ∙ ap (λ (n : ℕ). n / 256 ^ 6) half)
-
-high_5 : (x y : ℕ) → y < 2 ^ 64 → (x * 2 ^ 64 + y) / 256 ^ 13 % 256 ≡ x / 256 ^ 5 % 256
-high_5 x y ly =
-    let half : (x * 2 ^ 64 + y) / 2 ^ 64 ≡ x = omega arith in
-    ap (λ (n : ℕ). n % 256) (sym (div-div-eq-div-mul (x * 2 ^ 64 + y) (2 ^ 64) (256 ^ 5)) ∙ ap (λ (n : ℕ). n / 256 ^ 5) half)
-
-high_4 : (x y : ℕ) → y < 2 ^ 64 → (x * 2 ^ 64 + y) / 256 ^ 12 % 256 ≡ x / 256 ^ 4 % 256
-high_4 x y ly =
-    let half : (x * 2 ^ 64 + y) / 2 ^ 64 ≡ x = omega arith in
-    ap (λ (n : ℕ). n % 256) (sym (div-div-eq-div-mul (x * 2 ^ 64 + y) (2 ^ 64) (256 ^ 4)) ∙ ap (λ (n : ℕ). n / 256 ^ 4) half)
-
-high_3 : (x y : ℕ) → y < 2 ^ 64 → (x * 2 ^ 64 + y) / 256 ^ 11 % 256 ≡ x / 256 ^ 3 % 256
-high_3 x y ly =
-    let half : (x * 2 ^ 64 + y) / 2 ^ 64 ≡ x = omega arith in
-    ap (λ (n : ℕ). n % 256) (sym (div-div-eq-div-mul (x * 2 ^ 64 + y) (2 ^ 64) (256 ^ 3)) ∙ ap (λ (n : ℕ). n / 256 ^ 3) half)
-
-high_2 : (x y : ℕ) → y < 2 ^ 64 → (x * 2 ^ 64 + y) / 256 ^ 10 % 256 ≡ x / 256 ^ 2 % 256
-high_2 x y ly =
-    let half : (x * 2 ^ 64 + y) / 2 ^ 64 ≡ x = omega arith in
-    ap (λ (n : ℕ). n % 256) (sym (div-div-eq-div-mul (x * 2 ^ 64 + y) (2 ^ 64) (256 ^ 2)) ∙ ap (λ (n : ℕ). n / 256 ^ 2) half)
-
-high_1 : (x y : ℕ) → y < 2 ^ 64 → (x * 2 ^ 64 + y) / 256 ^ 9 % 256 ≡ x / 256 ^ 1 % 256
-high_1 x y ly =
-    let half : (x * 2 ^ 64 + y) / 2 ^ 64 ≡ x = omega arith in
-    ap (λ (n : ℕ). n % 256) (sym (div-div-eq-div-mul (x * 2 ^ 64 + y) (2 ^ 64) (256 ^ 1)) ∙ ap (λ (n : ℕ). n / 256 ^ 1) half)
-
-high_0 : (x y : ℕ) → y < 2 ^ 64 → (x * 2 ^ 64 + y) / 256 ^ 8 % 256 ≡ x % 256
-high_0 x y ly = let half : (x * 2 ^ 64 + y) / 2 ^ 64 ≡ x = omega arith in ap (λ (n : ℕ). n % 256) half
-
-low_7 : (x y : ℕ) → y < 2 ^ 64 → (x * 2 ^ 64 + y) / 256 ^ 7 % 256 ≡ y / 256 ^ 7 % 256
-low_7 x y ly = omega arith
-
-low_6 : (x y : ℕ) → y < 2 ^ 64 → (x * 2 ^ 64 + y) / 256 ^ 6 % 256 ≡ y / 256 ^ 6 % 256
-low_6 x y ly = omega arith
-
-low_5 : (x y : ℕ) → y < 2 ^ 64 → (x * 2 ^ 64 + y) / 256 ^ 5 % 256 ≡ y / 256 ^ 5 % 256
-low_5 x y ly = omega arith
-
-low_4 : (x y : ℕ) → y < 2 ^ 64 → (x * 2 ^ 64 + y) / 256 ^ 4 % 256 ≡ y / 256 ^ 4 % 256
-low_4 x y ly = omega arith
-
-low_3 : (x y : ℕ) → y < 2 ^ 64 → (x * 2 ^ 64 + y) / 256 ^ 3 % 256 ≡ y / 256 ^ 3 % 256
-low_3 x y ly = omega arith
-
-low_2 : (x y : ℕ) → y < 2 ^ 64 → (x * 2 ^ 64 + y) / 256 ^ 2 % 256 ≡ y / 256 ^ 2 % 256
-low_2 x y ly = omega arith
-
-low_1 : (x y : ℕ) → y < 2 ^ 64 → (x * 2 ^ 64 + y) / 256 ^ 1 % 256 ≡ y / 256 ^ 1 % 256
-low_1 x y ly = omega arith
-
-low_0 : (x y : ℕ) → y < 2 ^ 64 → (x * 2 ^ 64 + y) % 256 ≡ y % 256
-low_0 x y ly = omega arith
+-- byte k of a number of 128 bits, by its halves: a byte of the lower half, or one of the upper half
+byte_at : (x y k : ℕ) → y < 2 ^ 64 → (x * 2 ^ 64 + y) / 256 ^ k % 256 ≡ if nat_lt k 8 then y / 256 ^ k % 256 else x / 256 ^ (k - 8) % 256
+byte_at x y k ly = elim (cases_lt k 8) [
+  | inl low ↦
+      let parts : x * 2 ^ 64 + y ≡ y + x * 256 ^ (7 - k) * 256 * 256 ^ k =
+      let whole : 7 - k + (1 + k) ≡ 8 = omega arith in
+      let split : 256 ^ (7 - k) * (256 * 256 ^ k) ≡ 2 ^ 64 = sym (ap (λ (p : ℕ). 256 ^ (7 - k) * p) (pow-add 256 1 k)) ∙ sym (pow-add 256 (7 - k) (1 + k)) ∙ ap (λ (n : ℕ). 256 ^ n) whole in
+      ap (λ (p : ℕ). x * p + y) (sym split) ∙ add_comm (x * (256 ^ (7 - k) * (256 * 256 ^ k))) y
+      ∙ ap (λ (p : ℕ). y + p) (sym (mul_assoc x (256 ^ (7 - k)) (256 * 256 ^ k)) ∙ sym (mul_assoc (x * 256 ^ (7 - k)) 256 (256 ^ k))) in
+      rw (lt-ltb k 8 low)
+      (ap (λ (n : ℕ). n / 256 ^ k % 256) parts ∙ ap (λ (n : ℕ). n % 256) (add-mul-div_right y (x * 256 ^ (7 - k) * 256) {z = 256 ^ k} (some k))
+      ∙ add-mul-mod_self_right (y / 256 ^ k) (x * 256 ^ (7 - k)) 256)
+  | inr high ↦
+      let half : (x * 2 ^ 64 + y) / 2 ^ 64 ≡ x = omega arith in
+      let whole : 8 + (k - 8) ≡ k = omega arith in
+      rw (le-ltb k 8 high)
+      (ap (λ (n : ℕ). (x * 2 ^ 64 + y) / 256 ^ n % 256) (sym whole) ∙ ap (λ (p : ℕ). (x * 2 ^ 64 + y) / p % 256) (pow-add 256 8 (k - 8))
+      ∙ ap (λ (n : ℕ). n % 256) (sym (div-div-eq-div-mul (x * 2 ^ 64 + y) (2 ^ 64) (256 ^ (k - 8))) ∙ ap (λ (n : ℕ). n / 256 ^ (k - 8)) half))
+]
 
 halves : (x y : ℕ) → y < 2 ^ 64 → to_be_bytes w128 (x * 2 ^ 64 + y) ≡ to_be_bytes w64 x ++ to_be_bytes w64 y
-halves x y ly = λ i. high_7 x y ly i ∷ high_6 x y ly i ∷ high_5 x y ly i ∷ high_4 x y ly i ∷ high_3 x y ly i ∷ high_2 x y ly i ∷ high_1 x y ly i ∷ high_0 x y ly i ∷ low_7 x y ly i ∷ low_6 x y ly i ∷ low_5 x y ly i ∷ low_4 x y ly i ∷ low_3 x y ly i ∷ low_2 x y ly i ∷ low_1 x y ly i ∷ low_0 x y ly i ∷ []
+halves x y ly =
+    let b : (k : ℕ) → (x * 2 ^ 64 + y) / 256 ^ k % 256 ≡ if nat_lt k 8 then y / 256 ^ k % 256 else x / 256 ^ (k - 8) % 256 = λ k. byte_at x y k ly in
+    let b8 : (x * 2 ^ 64 + y) / 256 ^ 8 % 256 ≡ x % 256 = omega arith in
+    let b0 : (x * 2 ^ 64 + y) % 256 ≡ y % 256 = omega arith in
+    λ i. b 15 i ∷ b 14 i ∷ b 13 i ∷ b 12 i ∷ b 11 i ∷ b 10 i ∷ b 9 i ∷ b8 i ∷ b 7 i ∷ b 6 i ∷ b 5 i ∷ b 4 i ∷ b 3 i ∷ b 2 i ∷ b 1 i ∷ b0 i ∷ []
 
 -- the block whose last four bytes are c
 abbrev pub counted : List ℕ → ℕ → List ℕ
@@ -156,7 +123,7 @@ inc_counts nonce c (suc j) len lt =
     ∙ ap (λ (n : ℕ). nonce ++ to_be_bytes w32 ((n + 1) % 2 ^ 32)) (from_be_bytes-to_be_bytes_4 d ld)
     ∙ ap (counted nonce) next
 
-inc_one : (nonce : List ℕ) → length nonce ≡ 12 → inc32 (first_block nonce) ≡ counted nonce 2
+inc_one : (nonce : List ℕ) → length nonce ≡ 12 → inc32 (first_counter nonce) ≡ counted nonce 2
 unfolding inc32_by
 inc_one nonce len = inc_counts nonce 1 1 len (lit< tt)
 
@@ -172,8 +139,8 @@ stream_same s r t (x ∷ text) h =
 pub gcm_is_count : (e : List ℕ → List ℕ) (nonce text : List ℕ) → length nonce ≡ 12 → ((i : ℕ) → get_or nonce i 0 < 256) → length text ≤ 2 ^ 32
     → counter_mode e (counted nonce 2) text ≡ gcm_text e nonce text
 gcm_is_count e nonce text len bytes small =
-    let second : inc32 (first_block nonce) ≡ counted nonce 2 = inc_one nonce len in
-    stream_same (stream_byte e (counted nonce 2)) (λ t. slice_index (e (inc32_by (t / 16) (inc32 (first_block nonce)))) (t % 16)) 0 text
+    let second : inc32 (first_counter nonce) ≡ counted nonce 2 = inc_one nonce len in
+    stream_same (stream_byte e (counted nonce 2)) (λ t. slice_index (e (inc32_by (t / 16) (inc32 (first_counter nonce)))) (t % 16)) 0 text
     (λ t lt.
     let low : 2 + t / 16 < 2 ^ 32 = omega arith in
     ap (λ (b : List ℕ). slice_index (e b) (t % 16))

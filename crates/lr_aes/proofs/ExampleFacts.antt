@@ -6,7 +6,7 @@ use Rattle.lr_field.specs.Field.{product, polynomial_product, remainder, inverse
 use Rattle.lr_aes.specs.Cipher.{sub_byte, round, last_round, rounds, round_constant, next_word, schedule}
 use Rattle.lr_aes.specs.Key.{encrypted, expanded}
 use Rattle.lr_aes.specs.Ghash.{times_x, shifted, partial_product, block_product, power, ghash}
-use Rattle.lr_aes.specs.Gcm.{gcm_tag, hash_input, first_block}
+use Rattle.lr_aes.specs.Gcm.{gcm_tag, hash_input, first_counter}
 use Rattle.lr_aes.specs.Counter.{counter_at}
 use Rattle.lr_aes.specs.Examples.{block_of, counter_key, MeetsExamples}
 
@@ -43,7 +43,7 @@ hash_key : encrypted (replicate 32 0) (replicate 16 0) ≡ to_be_bytes w128 0xdc
 unfolding product polynomial_product remainder inverse inverse_below sub_byte round last_round rounds round_constant next_word schedule encrypted expanded
 hash_key = refl
 
-mask : encrypted (replicate 32 0) (first_block (replicate 12 0)) ≡ to_be_bytes w128 0x530f8afbc74536b9a963b4f1c4cb738b
+mask : encrypted (replicate 32 0) (first_counter (replicate 12 0)) ≡ to_be_bytes w128 0x530f8afbc74536b9a963b4f1c4cb738b
 unfolding product polynomial_product remainder inverse inverse_below sub_byte round last_round rounds round_constant next_word schedule encrypted expanded
 mask = refl
 
@@ -55,7 +55,7 @@ tag_from : (h j : ℕ) → h ≡ 0xdc95c078a2408989ad48a21492842087 → j ≡ 0x
 tag_from h j eh ej = (λ i. bit_xor (ej i) (ghash (eh i) (hash_input [] sealed))) ∙ ap (bit_xor 0x530f8afbc74536b9a963b4f1c4cb738b) hashed
 
 tag : gcm_tag (encrypted (replicate 32 0)) (replicate 12 0) [] sealed ≡ to_be_bytes w128 0xd0d1c8a799996bf0265b98b5d48ab919
-tag = ap (to_be_bytes w128) (tag_from (from_be_bytes w128 (encrypted (replicate 32 0) (replicate 16 0))) (from_be_bytes w128 (encrypted (replicate 32 0) (first_block (replicate 12 0))))
+tag = ap (to_be_bytes w128) (tag_from (from_be_bytes w128 (encrypted (replicate 32 0) (replicate 16 0))) (from_be_bytes w128 (encrypted (replicate 32 0) (first_counter (replicate 12 0))))
     (ap (from_be_bytes w128) hash_key) (ap (from_be_bytes w128) mask))
 
 pub meets : MeetsExamples

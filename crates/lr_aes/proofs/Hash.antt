@@ -6,7 +6,7 @@ use Rattle.std.proofs.Math.Nat.{div-div-eq-div-mul}
 use Rattle.std.specs.List.{range_with_len}
 use lib.Bits.{xor_assoc, xor_zero_r, xor_shifted}
 use Rattle.lr_field.proofs.Linear.{Additive, additive-zero, additive-same, xor_shl, xor_swap}
-use Rattle.lr_field.proofs.Computed.{all_below, all_below-at}
+use Rattle.lr_field.proofs.AllBelow.{all_below, all_below-at}
 use Rattle.lr_aes.specs.Ghash.{times_x, shifted, partial_product, block_product, power, ghash}
 use Rattle.lr_aes.specs.Products.{running}
 use Rattle.lr_aes.proofs.Blocks.{shifted-xor, shifted-lt, product-xor_l, block_product-xor_l, block_product-lt, pow_after, turn_shifted, running_is_ghash}

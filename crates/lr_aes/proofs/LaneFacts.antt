@@ -6,7 +6,7 @@ use Rattle.std.specs.Simd.Lanes.{Each1, zip2}
 use Rattle.std.specs.Int.{bit_at}
 use Rattle.lr_field.specs.Field.{product, polynomial_product, remainder, inverse, inverse_below}
 use Rattle.lr_field.proofs.Linear.{bit_gate, xor_swap}
-use Rattle.lr_field.proofs.Computed.{all_below, all_below-at}
+use Rattle.lr_field.proofs.AllBelow.{all_below, all_below-at}
 use Rattle.lr_aes.specs.Cipher.{sub_byte}
 use Rattle.lr_aes.specs.Lanes.{sum_at_bits, standard, IsPlace, entry, upper_place, lower_place, read_at}
 use Rattle.lr_aes.specs.declared.tables.TheConstants.{BASIS_LOW, BASIS_HIGH, INVERSES, QUOTIENTS, ONCE_UPPER, ONCE_LOWER, TWICE_UPPER, TWICE_LOWER, LAST_UPPER, LAST_LOWER}

@@ -1,11 +1,12 @@
-pub mod TableFacts
-pub mod LaneFacts
-pub mod StateFacts
-pub mod KeyWords
-pub mod KeyFacts
-pub mod CounterFacts
-pub mod Twice
-pub mod Blocks
-pub mod Hash
-pub mod Count
-pub mod ExampleFacts
+mod Blocks
+mod Count
+mod CounterFacts
+mod ExampleFacts
+mod Hash
+mod KeyFacts
+mod KeyWords
+mod LaneFacts
+mod StateFacts
+mod TableFacts
+mod Twice
+pub mod Public

@@ -2,7 +2,7 @@
 use Rattle.std.proofs.Common.{◌≡◌, ℕ, ◌^◌, ◌<◌, ◌==◌, ◌&&◌, Bool, true, refl, slice_index, nat_lt, arith}
 use Rattle.std.proofs.lemmas.Bool.{and_parts, eqb-true, ltb-true}
 use Rattle.lr_field.specs.Field.{product, polynomial_product, remainder, inverse, inverse_below}
-use Rattle.lr_field.proofs.Computed.{all_below, all_below-at}
+use Rattle.lr_field.proofs.AllBelow.{all_below, all_below-at}
 use Rattle.lr_aes.specs.Cipher.{sub_byte, round_constant}
 use Rattle.lr_aes.specs.declared.schedule.TheConstants.{ROUND_CONSTANTS}
 use Rattle.lr_aes.specs.declared.tables.TheConstants.{SBOX}

@@ -1,5 +1,5 @@
 -- A stream added twice restores the text.
-use Rattle.std.proofs.Common.{◌≡◌, ℕ, suc, List, [], ◌∷◌, bit_xor, refl, ap, ◌∙◌}
+use Rattle.std.proofs.Common.{◌≡◌, ℕ, suc, List, [], ◌∷◌, length, bit_xor, refl, ap, ◌∙◌}
 use lib.Bits.{xor_assoc, xor_zero_r, xor_self}
 use Rattle.lr_aes.specs.Counter.{with_stream, counter_mode, stream_byte}
 use Rattle.lr_aes.specs.Gcm.{gcm_text}
@@ -17,3 +17,8 @@ counter_twice e first text = stream_twice (stream_byte e first) 0 text
 
 pub gcm_twice : (e : List ℕ → List ℕ) (nonce text : List ℕ) → gcm_text e nonce (gcm_text e nonce text) ≡ text
 gcm_twice e nonce text = stream_twice _ 0 text
+
+pub length-with_stream : (stream : ℕ → ℕ) (t : ℕ) (text : List ℕ) → length (with_stream stream t text) ≡ length text
+unfolding with_stream
+length-with_stream stream t [] = refl
+length-with_stream stream t (x ∷ text) = ap suc (length-with_stream stream (suc t) text)

@@ -41,14 +41,14 @@ gctr e first text = with_stream (λ t. slice_index (e (inc32_by (t / 16) first))
 -- ---- sealing (section 7.1)
 
 -- J0: the nonce, 31 zero bits and a one bit (step 2)
-abbrev pub first_block : List ℕ → List ℕ
-first_block nonce = nonce ++ (0 ∷ 0 ∷ 0 ∷ 1 ∷ [])
+abbrev pub first_counter : List ℕ → List ℕ
+first_counter nonce = nonce ++ (0 ∷ 0 ∷ 0 ∷ 1 ∷ [])
 
 -- the cipher text of a plain text, and the plain text of a cipher text (step 3; section 7.2)
 abbrev pub gcm_text : (List ℕ → List ℕ) → List ℕ → List ℕ → List ℕ
-gcm_text e nonce text = gctr e (inc32 (first_block nonce)) text
+gcm_text e nonce text = gctr e (inc32 (first_counter nonce)) text
 
 -- the tag of a cipher text and its additional data (step 6): the cipher of J0 plus GHASH under the cipher of zeros
 abbrev pub gcm_tag : (List ℕ → List ℕ) → List ℕ → List ℕ → List ℕ → List ℕ
-gcm_tag e nonce aad text = to_be_bytes w128 (bit_xor (from_be_bytes w128 (e (first_block nonce)))
+gcm_tag e nonce aad text = to_be_bytes w128 (bit_xor (from_be_bytes w128 (e (first_counter nonce)))
     (ghash (from_be_bytes w128 (e (replicate 16 0))) (hash_input aad text)))

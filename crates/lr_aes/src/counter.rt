@@ -10,7 +10,7 @@ use std::simd::prelude::*;
 
 // The block that the counter stands for.
 #[inline(always)]
-fn block_of(counter: u128) -> u8x16
+fn block_from(counter: u128) -> u8x16
     ensures { result ≡ to_be_bytes w128 counter }
 {
     let low = (counter % (1 << 64)) as u64;
@@ -27,8 +27,8 @@ fn counters(first: &[u8; 16], i: usize) -> Pair
     let start = u128::from_be_bytes(*first);
     let counter = start.wrapping_add(2 * i as u128);
     Pair {
-        first: block_of(counter),
-        second: block_of(counter.wrapping_add(1)),
+        first: block_from(counter),
+        second: block_from(counter.wrapping_add(1)),
     }
 }
 

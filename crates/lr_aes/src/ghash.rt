@@ -89,7 +89,7 @@ fn filled(rest: &[u8]) -> [u8; 16]
 }
 
 // The first block of the bytes, filled with zeros.
-fn first_block(rest: &[u8]) -> [u8; 16]
+fn front_block(rest: &[u8]) -> [u8; 16]
     ensures { result ≡ take 16 (rest.now ++ replicate 16 0) }
 {
     if rest.len() < 16 {
@@ -102,11 +102,11 @@ fn first_block(rest: &[u8]) -> [u8; 16]
 
 // Block `i` of the bytes, filled with zeros.
 #[inline(always)]
-fn block_of(bytes: &[u8], i: usize) -> u128
+fn block_at(bytes: &[u8], i: usize) -> u128
     requires { 16 * i < length bytes.now }
     ensures { result ≡ block_at bytes.now i }
 {
-    u128::from_be_bytes(first_block(&bytes[16 * i..]))
+    u128::from_be_bytes(front_block(&bytes[16 * i..]))
 }
 
 // The running product over the blocks of the bytes.
@@ -116,7 +116,7 @@ fn absorb(table: &[u128; 256], y: u128, bytes: &[u8]) -> u128
 {
     let mut z = y;
     for i in 0..(bytes.len() + 15) / 16 {
-        let next = times_key(table, z ^ block_of(bytes, i));
+        let next = times_key(table, z ^ block_at(bytes, i));
         z = next;
     }
     z

@@ -247,7 +247,7 @@ fn inc32(block: [u8; 16]) -> [u8; 16] {
 }
 
 // The nonce, 31 zero bits and a one bit.
-fn first_block(nonce: &[u8; 12]) -> [u8; 16] {
+fn first_counter(nonce: &[u8; 12]) -> [u8; 16] {
     let mut block = [0u8; 16];
     for k in 0..12usize {
         block[k] = nonce[k];
@@ -262,7 +262,7 @@ pub fn gcm_text(key: &[u8], nk: usize, nonce: &[u8; 12], text: &mut [u8])
     requires high { nk ≤ 8 }
     requires long { length key.now ≡ 4 * nk }
 {
-    let mut counter = first_block(nonce);
+    let mut counter = first_counter(nonce);
     let mut pad = [0u8; 16];
     for t in 0..text.len() {
         if t % 16 == 0 {
@@ -284,6 +284,6 @@ pub fn gcm_tag(key: &[u8], nk: usize, nonce: &[u8; 12], aad: &[u8], text: &[u8])
     requires text { length text.now ≤ 1000 }
 {
     let h = u128::from_be_bytes(encrypted(key, nk, [0u8; 16]));
-    let mask = u128::from_be_bytes(encrypted(key, nk, first_block(nonce)));
+    let mask = u128::from_be_bytes(encrypted(key, nk, first_counter(nonce)));
     (mask ^ ghash(h, aad, text)).to_be_bytes()
 }

@@ -1,4 +1,5 @@
-//! The vectors of the standards, each against the fast bodies and against the standard's own words.
+//! Vectors, each against the fast bodies and against the standard's own words. A comment names the standard that prints
+//! a vector; the others are compared with the plain bodies alone.
 use crate::{AesKey, plain};
 
 // 16 bytes.
@@ -50,6 +51,7 @@ fn counter_mode_of_the_standard(rt: HostRuntime) {
     }
 }
 
+// No standard's example.
 #[test]
 fn the_counter_wraps_at_128_bits(rt: HostRuntime) {
     let key = AesKey::new256(&[7u8; 32]);
@@ -61,7 +63,7 @@ fn the_counter_wraps_at_128_bits(rt: HostRuntime) {
     assert!(rt; plain::stream_byte(&[7u8; 32], &[0xffu8; 16], 16) == second[0]);
 }
 
-// The longest text is taken slowly; each shorter one is its front.
+// No standard's example. The longest text is taken slowly; each shorter one is its front.
 #[test]
 fn counter_mode_of_each_length_up_to_80(rt: HostRuntime) {
     let first = block(0xfffffffffffffffffffffffffffffffe);
@@ -80,6 +82,7 @@ fn counter_mode_of_each_length_up_to_80(rt: HostRuntime) {
     }
 }
 
+// Test cases 13 and 14 of the submission of GCM.
 #[test]
 fn gcm_of_nothing_and_of_16_zeros(rt: HostRuntime) {
     let zeros = [0u8; 32];
@@ -99,6 +102,7 @@ fn gcm_of_nothing_and_of_16_zeros(rt: HostRuntime) {
     assert!(rt; plain::gcm_tag(&zeros, 8, &nonce, &[], &slow) == tag);
 }
 
+// Test case 14 of the submission of GCM, with each bit of its tag changed.
 #[test]
 fn each_flipped_bit_of_a_tag_is_refused(rt: HostRuntime) {
     let key = AesKey::new256(&[0u8; 32]);

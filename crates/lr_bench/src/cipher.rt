@@ -1,21 +1,21 @@
 ghost use Rattle.std.specs.Prelude.{◌≤◌, ◌^◌, length, IfOk};
 
 use crate::error::BenchError;
-use crate::task::{Work, Worked};
+use crate::task::{Work, Worked, zeros};
 use lr_aes::AesKey;
 use std::alloc::Global;
 
 // Bytes that a cipher takes at once.
 const TEXT_MAX: usize = 4_294_967_296;
 
-// So many zeros.
-fn zeros(alloc: Global, size: usize) -> Result<Vec<u8>, BenchError>
+// So many zeros, of at most as many bytes as a cipher takes.
+fn text_of(alloc: Global, size: usize) -> Result<Vec<u8>, BenchError>
     ensures { IfOk result (λ v. length v.items ≤ 2 ^ 32) }
 {
     if size > TEXT_MAX {
         return Err(BenchError::Refused);
     }
-    Ok(vec![in alloc; 0u8; size]?)
+    zeros(alloc, size)
 }
 
 /// Counter mode under AES-256 (SP 800-38A) over so many bytes.
@@ -29,7 +29,7 @@ impl Work for Counting {
     fn prepare(alloc: Global, size: usize) -> Result<Self, BenchError> {
         Ok(Counting {
             key: AesKey::new256(&[0; 32]),
-            text: zeros(alloc, size)?,
+            text: text_of(alloc, size)?,
         })
     }
 
@@ -53,12 +53,12 @@ impl Work for Sealing {
     fn prepare(alloc: Global, size: usize) -> Result<Self, BenchError> {
         Ok(Sealing {
             key: AesKey::new256(&[0; 32]),
-            text: zeros(alloc, size)?,
+            text: text_of(alloc, size)?,
         })
     }
 
     fn work(&mut self, alloc: Global) -> Result<Worked, BenchError> {
-        let mut text = zeros(alloc, self.text.len())?;
+        let mut text = text_of(alloc, self.text.len())?;
         let tag = self.key.gcm_seal(&[0; 12], &[], &mut text);
         Ok(Worked {
             bytes: text.len(),

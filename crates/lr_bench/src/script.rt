@@ -4,7 +4,7 @@ use crate::error::BenchError;
 use crate::task::{Work, Worked};
 use lr_io::{MemSink, MemSource};
 use lr_report::{Run, report};
-use lr_script::Script;
+use lr_single::Script;
 use lr_text::{put_number, put_run};
 use lr_top::{RunRecord, top};
 use std::alloc::Global;

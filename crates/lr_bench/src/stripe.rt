@@ -1,17 +1,10 @@
 ghost use Rattle.std.specs.Prelude.{◌≡◌, length, IfOk};
 
 use crate::error::BenchError;
-use crate::task::{Work, Worked};
+use crate::task::{Work, Worked, zeros};
 use lr_manifest::CHUNK;
 use lr_stripe::{Code, STRIPE};
 use std::alloc::Global;
-
-// So many zeros.
-fn zeros(alloc: Global, size: usize) -> Result<Vec<u8>, BenchError>
-    ensures { IfOk result (λ v. length v.items ≡ size) }
-{
-    Ok(vec![in alloc; 0u8; size]?)
-}
 
 // Bytes that count up.
 fn count_up(bytes: &mut [u8]) {

@@ -1,16 +1,23 @@
+//! The table of tasks, and what each of them is.
+ghost use Rattle.std.specs.Prelude.{◌≡◌, length, IfOk};
+
 use crate::cipher::{Counting, Sealing};
 use crate::digest::{Copying, Digesting};
 use crate::error::BenchError;
 use crate::format::{Chunking, Printing, Spelling};
+use crate::jobs::Reading;
 use crate::script::{Parsing, Playing, Reporting};
 use crate::stripe::{Encoding, Rebuilding};
+use crate::turn::{Calling, call_four, call_one};
 use std::alloc::Global;
+use std::sync::Wait;
+use std::thread::Threads;
 use std::time::Instant;
 
 /// What a task did.
 #[derive(Clone, Copy, Debug, PartialEq, Eq)]
 pub struct Worked {
-    /// The bytes that it worked on.
+    /// The bytes that it worked on, or the calls that it made.
     pub bytes: usize,
     /// A number that depends on its output.
     pub made: u64,
@@ -24,6 +31,13 @@ pub trait Work: Drop {
         Self: Sized;
 
     fn work(&mut self, alloc: Global) -> Result<Worked, BenchError>;
+}
+
+/// So many zeros.
+pub fn zeros(alloc: Global, size: usize) -> Result<Vec<u8>, BenchError>
+    ensures { IfOk result (λ v. length v.items ≡ size) }
+{
+    Ok(vec![in alloc; 0u8; size]?)
 }
 
 /// What a task did, and in which time.
@@ -50,6 +64,7 @@ fn measure<W: Work>(rt: &HostRuntime, size: usize) -> Result<Timed, BenchError> 
 #[derive(Clone, Copy, Debug, PartialEq, Eq)]
 pub enum Kind {
     Parse,
+    Jobs,
     Report,
     Play,
     Sha256,
@@ -61,12 +76,23 @@ pub enum Kind {
     PrintManifest,
     Encode,
     Rebuild,
+    Call,
+    /// Calls of one shared node by so many threads.
+    Turns(usize),
+    /// Calls of four shared nodes by so many threads.
+    Crossing(usize),
 }
 
 /// Does a task once.
-pub fn run(rt: &HostRuntime, kind: Kind, size: usize) -> Result<Timed, BenchError> {
+pub fn run<T: Threads + Wait + Sync>(
+    rt: &HostRuntime,
+    threads: &T,
+    kind: Kind,
+    size: usize,
+) -> Result<Timed, BenchError> {
     match kind {
         Kind::Parse => measure::<Parsing>(rt, size),
+        Kind::Jobs => measure::<Reading>(rt, size),
         Kind::Report => measure::<Reporting>(rt, size),
         Kind::Play => measure::<Playing>(rt, size),
         Kind::Sha256 => measure::<Digesting>(rt, size),
@@ -78,6 +104,9 @@ pub fn run(rt: &HostRuntime, kind: Kind, size: usize) -> Result<Timed, BenchErro
         Kind::PrintManifest => measure::<Printing>(rt, size),
         Kind::Encode => measure::<Encoding>(rt, size),
         Kind::Rebuild => measure::<Rebuilding>(rt, size),
+        Kind::Call => measure::<Calling>(rt, size),
+        Kind::Turns(count) => call_one(rt, threads, count, size),
+        Kind::Crossing(count) => call_four(rt, threads, count, size),
     }
 }
 
@@ -89,11 +118,18 @@ pub struct Task {
     pub large: usize,
 }
 
-/// The tasks. The sizes of the first three count reads, those of `sha256`, `copy`, `ctr` and `gcm` bytes, and the others chunks.
-pub static TASKS: [Task; 12] = [
+/// The tasks. The sizes of `script`, `report` and `play` count reads, that of `jobs` counts jobs, those of `sha256`, `copy`,
+/// `ctr` and `gcm` bytes, those from `call` on calls, and the others chunks.
+pub static TASKS: [Task; 19] = [
     Task {
         name: "script",
         kind: Kind::Parse,
+        small: 20,
+        large: 20_000,
+    },
+    Task {
+        name: "jobs",
+        kind: Kind::Jobs,
         small: 20,
         large: 20_000,
     },
@@ -162,5 +198,41 @@ pub static TASKS: [Task; 12] = [
         kind: Kind::Rebuild,
         small: 1,
         large: 64,
+    },
+    Task {
+        name: "call",
+        kind: Kind::Call,
+        small: 32,
+        large: 1_600_000,
+    },
+    Task {
+        name: "turn1",
+        kind: Kind::Turns(1),
+        small: 32,
+        large: 1_600_000,
+    },
+    Task {
+        name: "turn2",
+        kind: Kind::Turns(2),
+        small: 32,
+        large: 1_600_000,
+    },
+    Task {
+        name: "turn4",
+        kind: Kind::Turns(4),
+        small: 32,
+        large: 1_600_000,
+    },
+    Task {
+        name: "cross2",
+        kind: Kind::Crossing(2),
+        small: 32,
+        large: 1_600_000,
+    },
+    Task {
+        name: "cross4",
+        kind: Kind::Crossing(4),
+        small: 32,
+        large: 1_600_000,
     },
 ];

@@ -1,3 +1,4 @@
 pub mod Claims
 pub mod Machine
+pub mod Orderly
 pub mod Served

@@ -37,7 +37,7 @@ state_after capacity st caller Evict (Evicted n) = record { chunks = []; claims 
 state_after capacity st caller Reap Reaped = claim_gone caller st
 state_after capacity st caller call reply = st
 
--- The cache, holding this, gives this reply to this call. Want of memory is free, but of the end of a claim, which takes none.
+-- The cache, holding this, gives this reply to this call. Want of memory is free, but a Reap takes none, and neither does the end of a claim.
 abbrev pub CacheStep : State → ℕ → CacheCall → CacheReply → Type 0
 CacheStep st caller (Look name) Held = IsSome (claim_of caller st)
 CacheStep st caller (Look name) (Hit chunk) =
@@ -60,7 +60,6 @@ CacheStep st caller Evict (Evicted n) = n ≡ length st.chunks
 CacheStep st caller Evict OutOfMemory = ⊤
 CacheStep st caller Reap Reaped = IsSome (claim_of caller st)
 CacheStep st caller Reap Nothing = IsNone (claim_of caller st)
-CacheStep st caller Reap OutOfMemory = IsNone (claim_of caller st)
 CacheStep st caller call reply = ⊥
 
 -- whether the log keeps a reply

@@ -1,21 +1,18 @@
 -- What a call does to a cache.
-use Rattle.std.specs.Prelude.{◌≡◌, ℕ, List, [], ◌∷◌, ◌++◌, MatchBool}
-use Rattle.std.specs.Bool.{OnFalse}
+use Rattle.std.specs.Prelude.{ℕ}
+use Rattle.lr_object.specs.Kept.{Sized, Keeps}
 use Rattle.lr_cache.specs.declared.call.CacheCall.{CacheCall}
 use Rattle.lr_cache.specs.declared.call.CacheReply.{CacheReply}
 use Rattle.lr_cache.specs.declared.call.CacheReply.TheVariants.{NoClaim, OutOfMemory}
-use Rattle.lr_cache.specs.Machine.{State, LogEntry, is_logged, CacheStep, Enters}
+use Rattle.lr_cache.specs.Machine.{State, is_logged, CacheStep, Enters}
 
 -- a cache, as contracts see it
-pub record Seen : Type 0 where
-  pub capacity : ℕ
-  pub log : List LogEntry
+abbrev pub Seen : Type 0
+Seen = Sized CacheCall CacheReply
 
--- The log has one entry more, or the cache is as it was, as far as callers can tell.
-pub record Keeps (old new : Seen) (caller : ℕ) (call : CacheCall) (reply : CacheReply) : Type 0 where
-  pub fixed : new.capacity ≡ old.capacity
-  pub logged : MatchBool (is_logged reply) ((e : LogEntry) × (new.log ≡ old.log ++ e ∷ []) × (e.caller ≡ caller) × Enters call reply e × (Unit {0} → Unit {0})) (new.log ≡ old.log)
-  pub unlogged : OnFalse (is_logged reply) (new ≡ old)
+-- The log has one entry more where the reply is logged, and the cache is else as it was, as far as callers can tell.
+abbrev pub Serves : Seen → Seen → ℕ → CacheCall → CacheReply → Type 0
+Serves old new caller call reply = Keeps (is_logged reply) (Enters call reply) old new caller
 
 -- The call of a caller that has no claim for it.
 abbrev pub Refuses : State → ℕ → CacheCall → Type 0

@@ -2,9 +2,9 @@
 ghost use Rattle.std.specs.Prelude.{◌≡◌, ◌<◌, [], IfOk, length};
 
 use crate::call::{CacheCall, CacheReply, Claim};
-use crate::places::{claim_at, claim_on, owner_of, place_of, put_first, raise};
+use crate::places::{claim_at, claim_on, place_of};
 use lr_manifest::{Chunk, Name};
-use lr_object::{Entry, Object};
+use lr_object::{Entry, Object, owner_of, put_first, raise};
 use lr_spec::OutOfMemory;
 use std::alloc::Global;
 use std::marker::Model;
@@ -38,7 +38,7 @@ impl Model for Cache {
 impl Cache {
     ghost use Rattle.lr_cache.specs.declared.call.CacheCall.TheVariants.{Look, Fill, GiveUp, Evict, Reap};
     ghost use Rattle.lr_cache.specs.Machine.{run, CacheStep};
-    ghost use Rattle.lr_cache.specs.Served.{Seen, Keeps, Refuses};
+    ghost use Rattle.lr_cache.specs.Served.{Seen, Serves, Refuses};
 
     /// An empty cache for so many chunks, at least one.
     pub fn new(alloc: Global, capacity: u32) -> Result<Cache, OutOfMemory>
@@ -55,7 +55,7 @@ impl Cache {
 
     fn look(&mut self, caller: u32, name: Name) -> CacheReply
         ensures answered { CacheStep (run self.old.capacity self.old.log) caller (Look name) result }
-        ensures kept { Keeps self.old self.new caller (Look name) result }
+        ensures kept { Serves self.old self.new caller (Look name) result }
     {
         if claim_at(self.claims.as_slice(), caller).is_some() {
             return CacheReply::Held;
@@ -97,7 +97,7 @@ impl Cache {
 
     fn fill(&mut self, caller: u32, chunk: Arc<Chunk>) -> CacheReply
         ensures answered { CacheStep (run self.old.capacity self.old.log) caller (Fill chunk) result }
-        ensures kept { Keeps self.old self.new caller (Fill chunk) result }
+        ensures kept { Serves self.old self.new caller (Fill chunk) result }
     {
         let Some(at) = claim_at(self.claims.as_slice(), caller) else {
             return self.refuse(caller, CacheCall::Fill { chunk });
@@ -108,9 +108,10 @@ impl Cache {
         let Ok(kept) = Arc::try_clone(&chunk) else {
             return CacheReply::OutOfMemory;
         };
-        if put_first(&mut self.chunks, self.capacity as usize, kept).is_err() {
+        if self.chunks.reserve(1).is_err() {
             return CacheReply::OutOfMemory;
         }
+        put_first(&mut self.chunks, self.capacity as usize, kept);
         self.claims.remove(at);
         self.log.push_reserved(Entry {
             caller,
@@ -122,7 +123,7 @@ impl Cache {
 
     fn give_up(&mut self, caller: u32) -> CacheReply
         ensures answered { CacheStep (run self.old.capacity self.old.log) caller GiveUp result }
-        ensures kept { Keeps self.old self.new caller GiveUp result }
+        ensures kept { Serves self.old self.new caller GiveUp result }
     {
         let Some(at) = claim_at(self.claims.as_slice(), caller) else {
             return self.refuse(caller, CacheCall::GiveUp);
@@ -138,7 +139,7 @@ impl Cache {
 
     fn evict(&mut self, caller: u32) -> CacheReply
         ensures answered { CacheStep (run self.old.capacity self.old.log) caller Evict result }
-        ensures kept { Keeps self.old self.new caller Evict result }
+        ensures kept { Serves self.old self.new caller Evict result }
     {
         if self.log.reserve(self.claims.len() + 1).is_err() {
             return CacheReply::OutOfMemory;
@@ -155,7 +156,7 @@ impl Cache {
 
     fn reap(&mut self, caller: u32) -> CacheReply
         ensures answered { CacheStep (run self.old.capacity self.old.log) caller Reap result }
-        ensures kept { Keeps self.old self.new caller Reap result }
+        ensures kept { Serves self.old self.new caller Reap result }
     {
         let Some(at) = claim_at(self.claims.as_slice(), caller) else {
             return CacheReply::Nothing;
@@ -173,7 +174,7 @@ impl Cache {
     fn refuse(&mut self, caller: u32, call: CacheCall) -> CacheReply
         requires { Refuses (run self.old.capacity self.old.log) caller call }
         ensures answered { CacheStep (run self.old.capacity self.old.log) caller call result }
-        ensures kept { Keeps self.old self.new caller call result }
+        ensures kept { Serves self.old self.new caller call result }
     {
         if self.log.reserve(self.claims.len() + 1).is_err() {
             return CacheReply::OutOfMemory;

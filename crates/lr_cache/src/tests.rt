@@ -1,7 +1,8 @@
+//! Claims by hand, and many of them.
 ghost use Rattle.std.specs.Prelude.{◌≡◌, IfOk, length};
 
 use crate::{Cache, CacheCall, CacheReply};
-use lr_manifest::{CHUNK, Chunk};
+use lr_manifest::{CHUNK, Chunk, Name};
 use lr_object::Object;
 use std::alloc::{AllocError, Global};
 use std::sync::Arc;
@@ -103,5 +104,44 @@ fn a_reap_ends_the_claim_of_its_caller(rt: HostRuntime) -> Result<(), Fail> {
         )
     );
     assert!(rt; matches!(look(alloc, &mut cache, 2, &x), CacheReply::Lead));
+    Ok(())
+}
+
+// The name of a number, big-endian in front.
+fn name_of(number: u32) -> Name {
+    let [a, b, c, d] = number.to_be_bytes();
+    let mut bytes = [0u8; 32];
+    bytes[0] = a;
+    bytes[1] = b;
+    bytes[2] = c;
+    bytes[3] = d;
+    Name { bytes }
+}
+
+// Each caller leads on a name of its own; the next one finds it busy. Then the even ones give up and the odd ones are
+// reaped, and a Reap of nothing is answered without an entry.
+#[test]
+fn a_thousand_claims_are_out_and_end(rt: HostRuntime) -> Result<(), Fail> {
+    let alloc = rt.alloc();
+    let mut cache = Cache::new(alloc, 1024)?;
+    for caller in 0..1_000u32 {
+        let name = name_of(caller);
+        let look = serve(alloc, &mut cache, caller, CacheCall::Look { name });
+        assert!(rt; matches!(look, CacheReply::Lead), "caller {caller}");
+        let look = serve(alloc, &mut cache, caller + 1, CacheCall::Look { name });
+        assert!(rt; matches!(look, CacheReply::Busy { holder } if holder == caller));
+    }
+    for caller in 0..1_000u32 {
+        if caller % 2 == 0 {
+            let ended = serve(alloc, &mut cache, caller, CacheCall::GiveUp);
+            assert!(rt; matches!(ended, CacheReply::Given), "caller {caller}");
+        } else {
+            let ended = serve(alloc, &mut cache, caller, CacheCall::Reap);
+            assert!(rt; matches!(ended, CacheReply::Reaped), "caller {caller}");
+        }
+        let again = serve(alloc, &mut cache, caller, CacheCall::Reap);
+        assert!(rt; matches!(again, CacheReply::Nothing), "caller {caller}");
+    }
+    assert_eq!(rt; cache.entries(), 2_000);
     Ok(())
 }

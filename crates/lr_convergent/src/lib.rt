@@ -1,7 +1,7 @@
 //! Sealed chunks: a chunk is encrypted under a key that is the digest of a salt and its own plaintext.
 //!
 //! Equal plaintexts under one salt are one chunk, and under another salt another one. The name of a chunk is the
-//! SHA-256 (FIPS 180-4) of its ciphertext.
+//! SHA-256 (FIPS 180-4) of its ciphertext. `piece` holds a chunk with its plaintext.
 #![tactic(auto)]
 
 ghost use Rattle.std.specs.Prelude.{◌≡◌, ◌≤◌, ◌++◌, ℕ, List, length, IfOk};
@@ -9,16 +9,18 @@ ghost use Rattle.sha2.specs.Sha256.{sha256};
 ghost use Rattle.lr_convergent.specs.Sealed.{filled, chunk_text, sealed_key, sealed_bytes, sealed_name, sealed};
 
 use lr_aes::AesKey;
-use lr_manifest::{Chunk, ChunkKey};
+use lr_manifest::{CHUNK, Chunk, ChunkKey};
 use lr_spec::OutOfMemory;
 use sha2::{Digest, Sha256};
 use std::alloc::Global;
 
+mod laws;
+mod piece;
 #[cfg(test)]
 mod tests;
 
-// Bytes of a chunk.
-const CHUNK: usize = 524_288;
+pub use laws::sealed_pieces_open;
+pub use piece::{KeptPiece, Piece};
 
 // The plaintext, and zeros to a whole chunk.
 fn fill(alloc: Global, plain: &[u8]) -> Result<Vec<u8>, OutOfMemory>

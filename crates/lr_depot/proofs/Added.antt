@@ -8,7 +8,7 @@ use Rattle.lr_roots.specs.View.{View, Has}
 use Rattle.lr_roots.specs.Names.{IsOneOf, AreApart, AreMany, IsNamed}
 use Rattle.lr_rules.specs.State.{State, Session}
 use Rattle.lr_rules.specs.Names.{IsImage}
-use Rattle.lr_depot.specs.Sessions.{Creates}
+use Rattle.lr_depot.specs.Sessions.{HasCreation}
 use Rattle.lr_depot.specs.Others.{IsDoubted, AddsOthers}
 use Rattle.lr_depot.proofs.Counted.{one_left, one_right, one_either, apart_joined}
 
@@ -111,18 +111,18 @@ doubted doubts i (Deleted r, has, none) = absurd none
 doubted doubts i (Chunk r n, has, none) = absurd none
 doubted doubts i (Withdrawn n, has, none) = absurd none
 
-module _ (v doubts : View) (sessions : FinMap nat_cmp Session) (n : ℕ) (a b : List (List ℕ)) (many : AreMany (IsNamed v) n) (first : AddsOthers v (Creates sessions) [] a) (second : AddsOthers v (IsDoubted doubts) a b) where
-  begun_of : (i : List ℕ) → IsOneOf a i → Creates sessions i × ¬ (IsNamed v i)
+module _ (v doubts : View) (sessions : FinMap nat_cmp Session) (n : ℕ) (a b : List (List ℕ)) (many : AreMany (IsNamed v) n) (first : AddsOthers v (HasCreation sessions) [] a) (second : AddsOthers v (IsDoubted doubts) a b) where
+  begun_of : (i : List ℕ) → IsOneOf a i → HasCreation sessions i × ¬ (IsNamed v i)
   begun_of i o = by (first.each i o)
     where
-      by : IsOneOf [] i ⊎ (Creates sessions i × ¬ (IsNamed v i)) → Creates sessions i × ¬ (IsNamed v i)
+      by : IsOneOf [] i ⊎ (HasCreation sessions i × ¬ (IsNamed v i)) → HasCreation sessions i × ¬ (IsNamed v i)
       by (inl none) = absurd none
       by (inr p) = p
 
-  other_of : (i : List ℕ) → IsOneOf b i → (IsDoubted doubts i ⊎ Creates sessions i) × ¬ (IsNamed v i)
+  other_of : (i : List ℕ) → IsOneOf b i → (IsDoubted doubts i ⊎ HasCreation sessions i) × ¬ (IsNamed v i)
   other_of i o = by (second.each i o)
     where
-      by : IsOneOf a i ⊎ (IsDoubted doubts i × ¬ (IsNamed v i)) → (IsDoubted doubts i ⊎ Creates sessions i) × ¬ (IsNamed v i)
+      by : IsOneOf a i ⊎ (IsDoubted doubts i × ¬ (IsNamed v i)) → (IsDoubted doubts i ⊎ HasCreation sessions i) × ¬ (IsNamed v i)
       by (inl o) = (inr (begun_of i o).0, (begun_of i o).1)
       by (inr p) = (inl p.0, p.1)
 
@@ -134,9 +134,9 @@ module _ (v doubts : View) (sessions : FinMap nat_cmp Session) (n : ℕ) (a b : 
     long = length-append many.each b ∙ ap (λ k. k + length b) many.long;
   }
     where
-      unsure : (i : List ℕ) → IsDoubted doubts i ⊎ Creates sessions i → IsImage s i
+      unsure : (i : List ℕ) → IsDoubted doubts i ⊎ HasCreation sessions i → IsImage s i
       unsure i (inl d) = let h = doubted doubts i d in inr (inl (h.0, subst (λ w. Has w (Manifest h.0 i)) (sym in_doubt) h.1))
-      unsure i (inr c) = inr (inr (subst (λ m. Creates m i) (sym begun) c))
+      unsure i (inr c) = inr (inr (subst (λ m. HasCreation m i) (sym begun) c))
 
       into : (i : List ℕ) → IsOneOf many.each i ⊎ IsOneOf b i → IsImage s i
       into i (inl o) = inl (subst (λ w. IsNamed w i) (sym view) ((many.just i).0 o))
@@ -153,4 +153,4 @@ module _ (v doubts : View) (sessions : FinMap nat_cmp Session) (n : ℕ) (a b : 
       back : (i : List ℕ) → IsImage s i → IsOneOf (many.each ++ b) i
       back i (inl h) = named i (inl (subst (λ w. IsNamed w i) view h))
       back i (inr (inl u)) = named i (second.all i (Manifest u.0 i, subst (λ w. Has w (Manifest u.0 i)) in_doubt u.1, refl))
-      back i (inr (inr c)) = named i (kept i (first.all i (subst (λ m. Creates m i) begun c)))
+      back i (inr (inr c)) = named i (kept i (first.all i (subst (λ m. HasCreation m i) begun c)))

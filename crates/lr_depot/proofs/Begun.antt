@@ -1,23 +1,19 @@
 -- Sessions by their callers and images.
 use Rattle.std.proofs.Common.{◌≡◌, ◌==◌, ℕ, List, Option, Some, None, Bool, true, false, cond, not, sym, ◌∙◌, ap, refl, inl, inr}
 use mathlib.Core.Logic.{◌⊎◌}
-use Rattle.std.proofs.lemmas.Bool.{cases_Bool, cond-false, eq-eqb, eqb-true}
+use Rattle.std.proofs.lemmas.Bool.{cases_Bool, cond-true, cond-false, eq-eqb, eqb-true}
 use Rattle.std.specs.FinMap as fin
 use Rattle.std.specs.FinMap.{FinMap, same_map, nat_cmp-IsAntisymmetric}
 use Rattle.std.specs.Ordering.{nat_cmp, eq_by_cmp}
 use Rattle.std.specs.Cmp.{nat_cmp_total}
 use Rattle.lr_rules.specs.State.{Session, Job, Creates as Creation, Moves}
-use Rattle.lr_depot.specs.Sessions.{Creates, is_another, without_caller}
+use Rattle.lr_depot.specs.Sessions.{IsCreation, HasCreation, is_another, without_caller}
 use Rattle.lr_depot.proofs.Numbers.{same_number, get_retained, retained_all, removed_at, removed_beside}
 
--- it is a create session of the image
-abbrev pub IsCreation : List ℕ → Session → Type 0
-IsCreation image s = (c : ℕ) × (r : ℕ) × (d : ℕ) × (s ≡ record { caller = c; job = Creation image r d })
-
-pub creates : (m : FinMap nat_cmp Session) (image : List ℕ) (n : ℕ) (s : Session) → fin.get m n ≡ Some s → IsCreation image s → Creates m image
+pub creates : (m : FinMap nat_cmp Session) (image : List ℕ) (n : ℕ) (s : Session) → fin.get m n ≡ Some s → IsCreation image s → HasCreation m image
 creates m image n s is h = (n, h.0, h.1, h.2, is ∙ ap Some h.3)
 
-pub created : (m : FinMap nat_cmp Session) (image : List ℕ) → Creates m image → (n : ℕ) × (s : Session) × (fin.get m n ≡ Some s) × IsCreation image s
+pub created : (m : FinMap nat_cmp Session) (image : List ℕ) → HasCreation m image → (n : ℕ) × (s : Session) × (fin.get m n ≡ Some s) × IsCreation image s
 created m image h = (h.0, record { caller = h.1; job = Creation image h.2 h.3 }, h.4, (h.1, h.2, h.3, λ i. record { caller = h.1; job = Creation image h.2 h.3 }))
 
 -- the image of a job that creates one
@@ -58,8 +54,16 @@ without_none caller m none = retained_all m (λ k. is_another caller (fin.get m 
     at n (Some s) e out = absurd (none n s e (eqb-true s.caller caller (was (s.caller == caller) (sym (ap (is_another caller) e) ∙ out))))
 
 -- the sessions of the map whose images pass are the create sessions
-pub creation_of : (m : FinMap nat_cmp Session) (image : List ℕ) → ((e : ℕ × Session) × (fin.get m e.0 ≡ Some e.1) × IsCreation image e.1) → Creates m image
+pub creation_of : (m : FinMap nat_cmp Session) (image : List ℕ) → ((e : ℕ × Session) × (fin.get m e.0 ≡ Some e.1) × IsCreation image e.1) → HasCreation m image
 creation_of m image h = creates m image h.0.0 h.0.1 h.1 h.2
 
-pub of_creation : (m : FinMap nat_cmp Session) (image : List ℕ) → Creates m image → ((e : ℕ × Session) × (fin.get m e.0 ≡ Some e.1) × IsCreation image e.1)
+pub of_creation : (m : FinMap nat_cmp Session) (image : List ℕ) → HasCreation m image → ((e : ℕ × Session) × (fin.get m e.0 ≡ Some e.1) × IsCreation image e.1)
 of_creation m image h = let s = created m image h in ((s.0, s.1), s.2, s.3)
+
+-- a session of another caller is one of the others
+pub other_kept : (caller : ℕ) (m : FinMap nat_cmp Session) (n : ℕ) (s : Session) → fin.get m n ≡ Some s → (s.caller ≡ caller → ⊥) → fin.get (without_caller caller m) n ≡ Some s
+other_kept caller m n s is other = get_retained m (λ k. is_another caller (fin.get m k)) n ∙ cond-true _ (fin.get m n) None (ap (is_another caller) is ∙ ap not (by (cases_Bool (s.caller == caller)))) ∙ is
+  where
+    by : (s.caller == caller ≡ true) ⊎ (s.caller == caller ≡ false) → s.caller == caller ≡ false
+    by (inl t) = absurd (other (eqb-true s.caller caller t))
+    by (inr f) = f

@@ -1,12 +1,14 @@
 -- The store is always one of the ways in which the doubts can come out, so it is sound wherever a run ends.
-use Rattle.std.proofs.Common.{◌≡◌, ◌+◌, ℕ, List, [], ◌∷◌, Option, Some, None, IsSome, refl, sym, ap, subst, ◌∙◌, inl, inr, arith}
+use Rattle.std.proofs.Common.{◌≡◌, ◌+◌, ℕ, List, [], ◌∷◌, length, Option, Some, None, IsSome, refl, sym, ap, subst, ◌∙◌, inl, inr, arith}
 use mathlib.Core.Logic.{◌⊎◌}
 use Rattle.std.specs.Arc.{arc_value}
+use Rattle.std.specs.declared.sync.Arc.{Arc}
+use Rattle.std.specs.declared.alloc.Global.{Global}
 use Rattle.std.specs.FinMap as map
 use Rattle.std.specs.FinMap.{get-empty}
 use Rattle.std.proofs.lemmas.Option.{slice_get_within, get_or_from_slice_get}
 use Rattle.sha2.specs.Sha256.{sha256}
-use Rattle.lr_manifest.specs.Manifest.{Fields, spelling}
+use Rattle.lr_manifest.specs.Manifest.{ManifestFields, spelling}
 use Rattle.lr_manifest.specs.declared.name.Name.{Name}
 use Rattle.lr_origin.specs.Kind.{kind_cmp}
 use Rattle.lr_origin.specs.Objects.{Objects}
@@ -16,38 +18,39 @@ use Rattle.lr_origin.specs.declared.key.KeyKind.TheVariants as kind
 use Rattle.lr_roots.specs.View.{View, Held, salt, manifest, bare, Has, Lacks, Fits}
 use Rattle.lr_roots.specs.Roots.{IsComplete}
 use Rattle.lr_roots.specs.Sound.{Suits}
-use Rattle.lr_opening.specs.Store.{Mirrors, HasChunks, IsSoundStore}
-use Rattle.lr_rules.specs.Known.{Known, accepted}
-use Rattle.lr_rules.specs.State.{Job, Creates, Session, State, Holds, target}
+use Rattle.lr_opening.specs.Store.{Mirrors, IsBody, HasChunks, IsSoundStore}
+use Rattle.lr_rules.specs.Known.{Known, accepted, doubting, dismissed}
+use Rattle.lr_rules.specs.State.{Job, Creates, Moves, Session, State, Holds, target}
 use Rattle.lr_rules.specs.Start.{started, MayStart}
-use Rattle.lr_rules.specs.Safe.{IsSafe}
-use Rattle.lr_rules.specs.Calls.{MayRotate, MayMake, made}
+use Rattle.lr_rules.specs.Safe.{IsSafe, Works}
+use Rattle.lr_rules.specs.Calls.{knows, MayRotate, MayMake, MayMove, MaySettle, made}
 use Rattle.lr_rules.specs.Steps as steps
 use Rattle.lr_rules.proofs.Calls.{view_good}
 use Rattle.lr_rules.proofs.Doubts.{same_some}
-use Rattle.lr_rules.proofs.Grammar.{doubt_fits, creation_kind}
+use Rattle.lr_rules.proofs.Grammar.{doubt_fits, doubt_kind, creation_kind, move_kind}
+use Rattle.lr_rules.proofs.Keeps.{found_known}
+use Rattle.lr_rules.proofs.Manifests.{none_yet}
 use Rattle.lr_rules.proofs.Keys.{at_key}
-use Rattle.lr_rules.proofs.Outcomes.{not_both, view_settles}
+use Rattle.lr_rules.proofs.Outcomes.{not_both, is_some, view_settles}
 use Rattle.lr_rules.proofs.Serving.{leased_there}
 use Rattle.lr_rules.proofs.Sound.{lacks_if}
 use Rattle.lr_rules.proofs.Start.{start_safe}
 use Rattle.lr_rules.proofs.Steps.{step_safe}
 use Rattle.lr_depot.specs.declared.call.DepotCall.{DepotCall}
-use Rattle.lr_depot.specs.declared.call.DepotCall.TheVariants.{OpenImage, Fetch, Close, BeginCreate, PutChunk, PutManifest, Abandon, Rotate, Reap}
-use Rattle.lr_depot.specs.declared.call.DepotNoted.{DepotNoted}
+use Rattle.lr_depot.specs.declared.call.DepotCall.TheVariants.{Fetch, PutChunk, PutManifest, Rotate, CopyRead, FinishMigrate, Withdraw, Expire, Delete, Settle}
 use Rattle.lr_depot.specs.declared.call.DepotNoted.TheVariants as noted
 use Rattle.lr_depot.specs.declared.call.DepotReply.{DepotReply}
-use Rattle.lr_depot.specs.declared.call.DepotReply.TheVariants.{NoImage, Opened, NoLease, NoChunk, Fetched, Closed, NoRoot, Taken, Doubt, Full, Began, NoSession, Kept, Nonce, Missing, Made, Abandoned, RootsEnd, Rotated, Reaped, Nothing, Fault, Spoiled, OutOfMemory}
-use Rattle.lr_depot.specs.declared.call.DepotTold.{DepotTold}
+use Rattle.lr_depot.specs.declared.call.DepotReply.TheVariants.{Spoiled}
 use Rattle.lr_depot.specs.declared.call.DepotTold.TheVariants as told
 use Rattle.lr_depot.specs.declared.put.PutEnd.{PutEnd}
 use Rattle.lr_depot.specs.declared.put.PutEnd.TheVariants.{Kept as Done, Fault as Failed}
-use Rattle.lr_depot.specs.Machine.{LogEntry, DepotStep, IsFetch, IsPut, state_after, after_entry, run, IsNoted, IsTold, Enters}
+use Rattle.lr_depot.specs.Machine.{LogEntry, DepotStep, IsFetch, IsPut, IsCopy, IsNextItem, state_after, after_entry, run, Enters}
 use Rattle.lr_depot.specs.Put.{PutsKey}
-use Rattle.lr_depot.specs.Store.{IsChunkBody, IsSpoiled, Puts, StoreStep, LeadsTo, Follows}
-use Rattle.lr_depot.proofs.Moved.{IsStill, still, fetched_still, digest_named, entry_safe, run_safe}
+use Rattle.lr_depot.specs.Store.{IsChunkBody, IsBodyPut, IsSpoiled, Puts, StoreStep, LeadsTo, Follows}
+use Rattle.lr_depot.proofs.Cases.{OfEach, of_each, IsBare, MayPutBare, withdrawn_key, expired_key, deleted_key, empty_bare}
+use Rattle.lr_depot.proofs.Moved.{digest_named, entry_safe, run_safe}
 use Rattle.lr_depot.proofs.Logged.{leads_run}
-use Rattle.lr_depot.proofs.Stored.{same_follows, put_follows, known_object, put_chunks, seen_object}
+use Rattle.lr_depot.proofs.Stored.{same_follows, put_follows, known_object, put_chunks, seen_object, removed_follows, removing_follows, removed_chunks, removing_chunks, found_follows, missed_follows, look_body}
 
 pub start_follows : (v : View) (next : ℕ) (m : Objects) → Mirrors m v → Follows (started v next).known m
 start_follows v next m h = (v, view_settles (started v next).known (λ k x e. absurd (not_both _ x (get-empty kind_cmp k) e)), h)
@@ -64,6 +67,34 @@ held_of None some = absurd cc
 same_image : (b c : ℕ) (i j : List ℕ) (q r d e : ℕ) → ◌≡◌ {A = Option Session} (Some (record { caller = b; job = Creates i q d })) (Some (record { caller = c; job = Creates j r e })) → i ≡ j
 same_image b c i j q r d e f = let g : Creates i q d ≡ Creates j r e = ap (λ x. x.job) (same_some (record { caller = b; job = Creates i q d }) (record { caller = c; job = Creates j r e }) f) in cc
 
+-- the image and the manifest of a session that copies
+same_move : (b c : ℕ) (i j : List ℕ) (f g t u : ℕ) (p q : ManifestFields) → ◌≡◌ {A = Option Session} (Some (record { caller = b; job = Moves i f t p })) (Some (record { caller = c; job = Moves j g u q })) → (i ≡ j) × (p ≡ q)
+same_move b c i j f g t u p q e = let is : Moves i f t p ≡ Moves j g u q = ap (λ x. x.job) (same_some (record { caller = b; job = Moves i f t p }) (record { caller = c; job = Moves j g u q }) e) in (ap (image_of i) is, ap (fields_of p) is)
+  where
+    image_of : List ℕ → Job → List ℕ
+    image_of other (Moves i f t p) = i
+    image_of other (Creates i r d) = other
+
+    fields_of : ManifestFields → Job → ManifestFields
+    fields_of other (Moves i f t p) = p
+    fields_of other (Creates i r d) = other
+
+-- the body of an empty object
+empty_body : (k : KeyKind) → IsBare k → IsBody k bare []
+empty_body (kind.Withdrawn image) e = (tt, refl)
+empty_body (kind.Expired r) e = (tt, refl)
+empty_body (kind.Deleted r) e = (tt, refl)
+empty_body k e = absurd e
+
+-- the body under a key in doubt
+body_put_of : (k : KeyKind) (x : Held) (body : List ℕ) → IsKind k → ((r : ℕ) (name : List ℕ) → k ≡ kind.Chunk r name → (length body ≡ 524288) × (sha256 body ≡ name)) → IsBody k x body → IsBodyPut k x body
+body_put_of (kind.Chunk r name) x body of named is = named r name refl
+body_put_of (kind.Root r) x body of named is = is.1
+body_put_of (kind.Expired r) x body of named is = is.1
+body_put_of (kind.Deleted r) x body of named is = is.1
+body_put_of (kind.Manifest r image) x body of named is = is.1
+body_put_of (kind.Withdrawn image) x body of named is = is.1
+
 module _ (s : State) (h : IsSafe s) (c : ℕ) where
   -- the put of a chunk that isn't known to be there
   module _ (n : ℕ) (j : Job) (chunk name : List ℕ) (holds : Holds s n c j) (is : name ≡ sha256 chunk) (away : Lacks s.known.view (kind.Chunk (target j) name)) where
@@ -73,7 +104,7 @@ module _ (s : State) (h : IsSafe s) (c : ℕ) where
         (λ y some. fits_bare (target j) name y (doubt_fits s h (kind.Chunk (target j) name) y some)) refl
 
   -- the put of a creation's manifest
-  module _ (n : ℕ) (image : List ℕ) (r d : ℕ) (p : Fields) (may : MayMake s n c image r d p) where
+  module _ (n : ℕ) (image : List ℕ) (r d : ℕ) (p : ManifestFields) (may : MayMake s n c image r d p) where
     made_suits : Suits (kind.Manifest r image) (manifest p)
     made_suits =
         (view_good (made s n image r p) (step_safe s h (made s n image r p) (steps.Makes n c image r d p may (inl refl)))).sound.fits
@@ -96,6 +127,43 @@ module _ (s : State) (h : IsSafe s) (c : ℕ) where
       put_follows s (kind.Root (i + 1)) (salt bytes) bytes (root_kind i bytes may) (root_new i bytes may)
       (λ y some. absurd (not_both _ y may.sure some)) (may.suits, refl)
 
+  -- the put of a copied manifest
+  module _ (n : ℕ) (image : List ℕ) (from to : ℕ) (p : ManifestFields) (may : MayMove s n c image from to p) where
+    moved_suits : Suits (kind.Manifest to image) (manifest p)
+    moved_suits =
+        (view_good (made s n image to p) (step_safe s h (made s n image to p) (steps.FinishesMove n c image from to p may (inl refl)))).sound.fits
+        (kind.Manifest to image) (manifest p) (at_key s.known.view (kind.Manifest to image) (manifest p))
+
+    move_follows : (end : PutEnd) (t : Known) (m o : Objects) → PutsKey s.known (kind.Manifest to image) (manifest p) end t → Puts s (kind.Manifest to image) (spelling p) end m (Some o) → Follows s.known m → Follows t o
+    move_follows =
+        put_follows s (kind.Manifest to image) (manifest p) (spelling p) (move_kind s h n c image from to p may.session) (none_yet s h n c image from to p may)
+        (λ y some. absurd (not_both _ y may.sure some)) (moved_suits, refl)
+
+    known_moved : (state_after s c (noted.FinishMigrate n) (told.Moved from to)).known ≡ accepted s.known (kind.Manifest to image) (manifest p)
+    known_moved = rw may.session refl
+
+    known_moving : (state_after s c (noted.FinishMigrate n) (told.Fault (kind.Manifest to image))).known ≡ doubting s.known (kind.Manifest to image) (manifest p)
+    known_moving = rw may.session refl
+
+  -- the put of an empty object
+  module _ (k : KeyKind) (key : MayPutBare s k) where
+    bare_follows : (end : PutEnd) (t : Known) (m o : Objects) → PutsKey s.known k bare end t → Puts s k [] end m (Some o) → Follows s.known m → Follows t o
+    bare_follows =
+        put_follows s k bare [] (key.grammar h) key.absent (λ y some. empty_bare k y key.empty (doubt_fits s h k y some)) (empty_body k key.empty)
+
+    bare_chunks : (end : PutEnd) (m o : Objects) → Puts s k [] end m (Some o) → HasChunks m → HasChunks o
+    bare_chunks end m o = put_chunks k [] (key.grammar h) (λ r name e. absurd (subst IsBare e key.empty)) s end m o
+
+  -- a chunk or manifest key of the view
+  item_kind : (r : ℕ) (k : KeyKind) → IsNextItem s r k → IsKind k
+  item_kind r k next = (view_good s h).sound.keys k (is_some _ next.held next.may.here)
+
+  known_doubted : (r : ℕ) (k : KeyKind) (next : IsNextItem s r k) → (state_after s c (noted.Sweep r) (told.Fault k)).known ≡ doubting s.known k next.held
+  known_doubted r k next = rw next.may.here refl
+
+  known_found : (k : KeyKind) (x : Held) → MaySettle s k x → (state_after s c (noted.Settle k) told.There).known ≡ accepted s.known k x
+  known_found k x may = rw may.here (found_known s k x)
+
   -- what is known after a chunk was put, where the view has it and where it hasn't
   known_there : (n : ℕ) (j : Job) (name : Name) (x : Held) → Holds s n c j → map.get s.known.view (kind.Chunk (target j) name.bytes) ≡ Some x → (state_after s c (noted.PutChunk n name) told.Kept).known ≡ s.known
   known_there n j name x holds e = rw holds (rw e refl)
@@ -107,13 +175,6 @@ module _ (s : State) (h : IsSafe s) (c : ℕ) where
   known_made n image r d p holds = rw holds refl
 
   module _ (m o : Objects) where
-    -- the entry that stands for another one
-    as_kept : (n i : DepotNoted) (t u : DepotTold) → n ≡ i → t ≡ u → Follows (state_after s c i u).known o → Follows (state_after s c n t).known o
-    as_kept n i t u e f follows = subst (λ n. Follows (state_after s c n t).known o) (sym e) (subst (λ t. Follows (state_after s c i t).known o) (sym f) follows)
-
-    unmoved : (n : DepotNoted) (t : DepotTold) → IsStill t → Some o ≡ Some m → Follows s.known m → Follows (state_after s c n t).known o
-    unmoved n t q e f = subst (λ (t : State). Follows t.known o) (sym (still s c n t q)) (same_follows s.known m o e f)
-
     kept_follows : (n : ℕ) (chunk : List ℕ) (name : Name) → name.bytes ≡ sha256 chunk → (k : KeyKind) → IsPut s n c chunk k
         → (Has s.known.view k × (Some o ≡ Some m)) ⊎ (Lacks s.known.view k × Puts s k chunk Done m (Some o)) → Follows s.known m → Follows (state_after s c (noted.PutChunk n name) told.Kept).known o
     kept_follows n chunk name is k put stored f = by stored
@@ -133,57 +194,49 @@ module _ (s : State) (h : IsSafe s) (c : ℕ) where
     made_follows : (n : ℕ) (image : List ℕ) (r d : ℕ) (p : _) → MayMake s n c image r d (arc_value p) → Puts s (kind.Manifest r image) (spelling (arc_value p)) Done m (Some o) → Follows s.known m → Follows (state_after s c (noted.PutManifest n p) (told.Made r)).known o
     made_follows n image r d p may puts f = subst (λ t. Follows t o) (sym (known_made n image r d p may.session)) (make_follows n image r d (arc_value p) may Done (accepted s.known (kind.Manifest r image) (manifest (arc_value p))) m o refl puts f)
 
-    follows : (call : DepotCall) (reply : DepotReply) (n : DepotNoted) (t : DepotTold) → DepotStep s c call reply → IsNoted call n → IsTold reply t → StoreStep s c call reply m (Some o) → Follows s.known m → Follows (state_after s c n t).known o
-    follows (OpenImage image) (Opened lease p) n (told.Opened other q) step kept tells stores f = as_kept n (noted.OpenImage image) (told.Opened other q) (told.Opened other q) kept refl (same_follows s.known m o stores f)
-    follows (Fetch lease index) (Fetched chunk) n t step kept tells stores f = unmoved n t (fetched_still chunk t tells) stores.0 f
-    follows (Fetch lease index) (Fault k) n t step kept tells stores f = as_kept n (noted.Fetch lease index) t (told.Fault k) kept tells (same_follows s.known m o stores f)
-    follows (Fetch lease index) (Spoiled k) n t step kept tells stores f = unmoved n t (subst IsStill (sym tells) tt) stores.0 f
-    follows (Close lease) Closed n t step kept tells stores f = as_kept n (noted.Close lease) t told.Closed kept tells (same_follows s.known m o stores f)
-    follows (BeginCreate image) (Began session root bytes number) n t step kept tells stores f =
-        as_kept n (noted.BeginCreate image) t (told.Began session root bytes number) kept tells (same_follows s.known m o stores f)
-    follows (PutChunk n chunk) Kept (noted.PutChunk i name) t step kept tells stores f =
-        as_kept (noted.PutChunk i name) (noted.PutChunk n name) t told.Kept (ap (λ n. noted.PutChunk n name) kept.0) tells (kept_follows n (arc_value chunk) name kept.1 stores.0 stores.1 stores.3 f)
-    follows (PutChunk n chunk) (Fault k) (noted.PutChunk i name) t step kept tells stores f =
-        let put : IsPut s n c (arc_value chunk) k = step.0 in
-        as_kept (noted.PutChunk i name) (noted.PutChunk i name) t (told.Fault (kind.Chunk (target put.0) (sha256 (arc_value chunk)))) refl (tells ∙ ap told.Fault put.2)
-        (chunk_follows n put.0 (arc_value chunk) (sha256 (arc_value chunk)) put.1 refl (ap (map.get s.known.view) (sym put.2) ∙ step.1) Failed _ m o refl (subst (λ k. Puts s k (arc_value chunk) Failed m (Some o)) put.2 stores.1) f)
-    follows (PutChunk n chunk) (Spoiled k) i t step kept tells stores f = unmoved i t (subst IsStill (sym tells) tt) stores.1 f
-    follows (PutManifest n p) (Made r) (noted.PutManifest i q) t step kept tells stores f =
-        let same : stores.0 ≡ step.0 = same_image c c stores.0 step.0 r r stores.1.number step.1 (sym stores.1.session ∙ step.2.session) in
-        as_kept (noted.PutManifest i q) (noted.PutManifest n q) t (told.Made r) (ap (λ n. noted.PutManifest n q) kept.0) tells
-        (made_follows n step.0 r step.1 q (subst (MayMake s n c step.0 r step.1) (sym kept.1) step.2)
-        (subst (λ v. Puts s (kind.Manifest r step.0) (spelling v) Done m (Some o)) (sym kept.1) (subst (λ i. Puts s (kind.Manifest r i) (spelling (arc_value p)) Done m (Some o)) same stores.2)) f)
-    follows (PutManifest n p) (Fault k) (noted.PutManifest i q) t step kept tells stores f =
-        as_kept (noted.PutManifest i q) (noted.PutManifest n q) t (told.Fault (kind.Manifest step.1 step.0)) (ap (λ n. noted.PutManifest n q) kept.0) (tells ∙ ap told.Fault step.4)
-        (make_follows n step.0 step.1 step.2 (arc_value q) (subst (MayMake s n c step.0 step.1 step.2) (sym kept.1) step.3) Failed _ m o refl
-        (subst (λ v. Puts s (kind.Manifest step.1 step.0) (spelling v) Failed m (Some o)) (sym kept.1) (subst (λ k. Puts s k (spelling (arc_value p)) Failed m (Some o)) step.4 stores)) f)
-    follows (PutManifest n p) (Spoiled k) i t step kept tells stores f = unmoved i t (subst IsStill (sym tells) tt) stores.1 f
-    follows (Abandon n) Abandoned i t step kept tells stores f = as_kept i (noted.Abandon n) t told.Abandoned kept tells (same_follows s.known m o stores f)
-    follows (Rotate bytes) (Rotated r) n t step kept tells stores f =
-        as_kept n (noted.Rotate bytes) t (told.Rotated (step.0 + 1)) kept (tells ∙ ap told.Rotated step.2) (rotate_follows step.0 bytes step.1 Done _ m o refl (subst (λ r. Puts s (kind.Root r) bytes Done m (Some o)) step.2 stores) f)
-    follows (Rotate bytes) (Fault k) n t step kept tells stores f =
-        as_kept n (noted.Rotate bytes) t (told.Fault (kind.Root (step.0 + 1))) kept (tells ∙ ap told.Fault step.2) (rotate_follows step.0 bytes step.1 Failed _ m o refl (subst (λ k. Puts s k bytes Failed m (Some o)) step.2 stores) f)
-    follows (Rotate bytes) (Spoiled k) n t step kept tells stores f = unmoved n t (subst IsStill (sym tells) tt) stores.1 f
-    follows Reap Reaped n t step kept tells stores f = as_kept n noted.Reap t told.Reaped kept tells (same_follows s.known m o stores f)
-    follows call NoImage n t step kept tells stores f = unmoved n t (subst IsStill (sym tells) tt) stores f
-    follows call NoLease n t step kept tells stores f = unmoved n t (subst IsStill (sym tells) tt) stores f
-    follows call NoChunk n t step kept tells stores f = unmoved n t (subst IsStill (sym tells) tt) stores f
-    follows call NoRoot n t step kept tells stores f = unmoved n t (subst IsStill (sym tells) tt) stores f
-    follows call Taken n t step kept tells stores f = unmoved n t (subst IsStill (sym tells) tt) stores f
-    follows call (Doubt k) n t step kept tells stores f = unmoved n t (subst IsStill (sym tells) tt) stores f
-    follows call Full n t step kept tells stores f = unmoved n t (subst IsStill (sym tells) tt) stores f
-    follows call NoSession n t step kept tells stores f = unmoved n t (subst IsStill (sym tells) tt) stores f
-    follows call Nonce n t step kept tells stores f = unmoved n t (subst IsStill (sym tells) tt) stores f
-    follows call (Missing i) n t step kept tells stores f = unmoved n t (subst IsStill (sym tells) tt) stores f
-    follows call RootsEnd n t step kept tells stores f = unmoved n t (subst IsStill (sym tells) tt) stores f
-    follows call Nothing n t step kept tells stores f = absurd tells
-    follows call OutOfMemory n t step kept tells stores f = absurd tells
-    follows (OpenImage image) (Opened lease p) n t step kept tells stores f = absurd tells
-    follows (PutChunk n chunk) Kept i t step kept tells stores f = absurd kept
-    follows (PutChunk n chunk) (Fault k) i t step kept tells stores f = absurd kept
-    follows (PutManifest n p) (Made r) i t step kept tells stores f = absurd kept
-    follows (PutManifest n p) (Fault k) i t step kept tells stores f = absurd kept
-    follows call reply n t step kept tells stores f = absurd step
+    -- the put of a manifest as the call has it, with its handle as the log keeps it
+    as_noted : (n : ℕ) (image : List ℕ) (r : ℕ) (end : PutEnd) (a p : Arc ManifestFields Global) → arc_value p ≡ arc_value a → Puts s (kind.Manifest r image) (spelling (arc_value a)) end m (Some o) → Puts s (kind.Manifest r image) (spelling (arc_value p)) end m (Some o)
+    as_noted n image r end a p is puts = subst (λ v. Puts s (kind.Manifest r image) (spelling v) end m (Some o)) (sym is) puts
+
+    follows : OfEach s c (λ call reply n t. StoreStep s c call reply m (Some o) → Follows s.known m → Follows (state_after s c n t).known o)
+    follows = record {
+      quiet = λ call reply n t q stores f. subst (λ (t : State). Follows t.known o) (sym q.state) (same_follows s.known m o (q.objects m (Some o) stores) f);
+      opened = λ image a p r may stores f. same_follows s.known m o stores f;
+      closed = λ lease out stores f. same_follows s.known m o stores f;
+      began = λ image root bytes may salted stores f. same_follows s.known m o stores f;
+      chunk = λ n chunk name j holds is stores f. kept_follows n (arc_value chunk) name is stores.0 stores.1 stores.3 f;
+      chunk_doubted = λ n chunk name k is put away stores f.
+          subst (λ k. Follows (knows s (doubting s.known k bare)).known o) (sym put.2)
+          (chunk_follows n put.0 (arc_value chunk) (sha256 (arc_value chunk)) put.1 refl (ap (map.get s.known.view) (sym put.2) ∙ away) Failed _ m o refl (subst (λ k. Puts s k (arc_value chunk) Failed m (Some o)) put.2 stores.1) f);
+      made = λ n a p r image d is may stores f.
+          let same : stores.0 ≡ image = same_image c c stores.0 image r r stores.1.number d (sym stores.1.session ∙ may.session) in
+          made_follows n image r d p may (as_noted n image r Done a p is (subst (λ i. Puts s (kind.Manifest r i) (spelling (arc_value a)) Done m (Some o)) same stores.2)) f;
+      making = λ n a p r image d is may stores f. make_follows n image r d (arc_value p) may Failed _ m o refl (as_noted n image r Failed a p is stores) f;
+      abandoned = λ n j holds stores f. same_follows s.known m o stores f;
+      rotated = λ i bytes may stores f. rotate_follows i bytes may Done _ m o refl stores f;
+      rotating = λ i bytes may stores f. rotate_follows i bytes may Failed _ m o refl stores f;
+      moving = λ image from to a p may stores f. same_follows s.known m o stores f;
+      moved = λ n image from to p may stores f.
+          let same : (stores.0 ≡ image) × (stores.1 ≡ p) = same_move c c stores.0 image from from to to stores.1 p (sym stores.2.session ∙ may.session) in
+          subst (λ t. Follows t o) (sym (known_moved n image from to p may))
+          (move_follows n image from to p may Done _ m o refl (subst (λ i. Puts s (kind.Manifest to i) (spelling p) Done m (Some o)) same.0 (subst (λ q. Puts s (kind.Manifest to stores.0) (spelling q) Done m (Some o)) same.1 stores.3)) f);
+      move_doubted = λ n image from to p may stores f.
+          let same : stores.3 ≡ p = (same_move c c stores.0 image stores.1 from stores.2 to stores.3 p (sym stores.4.session ∙ may.session)).1 in
+          subst (λ t. Follows t o) (sym (known_moving n image from to p may))
+          (move_follows n image from to p may Failed _ m o refl (subst (λ q. Puts s (kind.Manifest to image) (spelling q) Failed m (Some o)) same stores.6) f);
+      bare_put = λ call reply n t k b stores f.
+          subst (λ (a : State). Follows a.known o) (sym b.state) (bare_follows k b.key Done (accepted s.known k bare) m o refl (b.objects m (Some o) stores) f);
+      bare_doubted = λ call n k b stores f.
+          subst (λ (a : State). Follows a.known o) (sym b.state) (bare_follows k b.key Failed (doubting s.known k bare) m o refl (b.objects m (Some o) stores) f);
+      removed = λ r k next stores f. removed_follows s.known h.agrees k next.held (item_kind r k next) next.may.here m o stores f;
+      removing = λ r k next stores f.
+          subst (λ t. Follows t o) (sym (known_doubted r k next)) (removing_follows s.known h.agrees k next.held (item_kind r k next) next.may.here m o stores f);
+      found = λ k x may stores f.
+          subst (λ t. Follows t o) (sym (known_found k x may))
+          (same_follows (accepted s.known k x) m o stores.0 (found_follows s.known k x m (doubt_kind s h k x may.here) may.here may.absent f stores.1.1 stores.1.3));
+      missed = λ k x may stores f. same_follows (dismissed s.known k) m o stores.0 (missed_follows s.known k x m (doubt_kind s h k x may.here) may.here may.absent f stores.1);
+      reaped = λ n j out own stores f. same_follows s.known m o stores f;
+    }
 
     -- where a chunk is put, its key names it
     chunk_chunks : (n : ℕ) (chunk : List ℕ) (k : KeyKind) (end : PutEnd) → IsPut s n c chunk k → IsChunkBody k chunk → Puts s k chunk end m (Some o) → HasChunks m → HasChunks o
@@ -193,25 +246,44 @@ module _ (s : State) (h : IsSafe s) (c : ℕ) where
     manifest_chunks : (n : ℕ) (image : List ℕ) (r d : ℕ) (body : List ℕ) (end : PutEnd) → Holds s n c (Creates image r d) → Puts s (kind.Manifest r image) body end m (Some o) → HasChunks m → HasChunks o
     manifest_chunks n image r d body end holds = put_chunks (kind.Manifest r image) body (creation_kind s h n c image r d holds) (λ r name e. absurd cc) s end m o
 
+    copied_chunks : (n : ℕ) (image : List ℕ) (from to : ℕ) (p : ManifestFields) (body : List ℕ) (end : PutEnd) → MayMove s n c image from to p → Puts s (kind.Manifest to image) body end m (Some o) → HasChunks m → HasChunks o
+    copied_chunks n image from to p body end may = put_chunks (kind.Manifest to image) body (move_kind s h n c image from to p may.session) (λ r name e. absurd cc) s end m o
+
+    move_chunks : (n : ℕ) (image : List ℕ) (from to : ℕ) (p : ManifestFields) (end : PutEnd) → MayMove s n c image from to p → Puts s (kind.Manifest to image) (spelling p) end m (Some o) → HasChunks m → HasChunks o
+    move_chunks n image from to p end may = copied_chunks n image from to p (spelling p) end may
+
     root_chunks : (i : ℕ) (bytes : List ℕ) (end : PutEnd) → MayRotate s i bytes → Puts s (kind.Root (i + 1)) bytes end m (Some o) → HasChunks m → HasChunks o
     root_chunks i bytes end may = put_chunks (kind.Root (i + 1)) bytes (root_kind i bytes may) (λ r name e. absurd cc) s end m o
 
     same_chunks : Some o ≡ Some m → HasChunks m → HasChunks o
     same_chunks e chunks = subst HasChunks (sym (same_some o m e)) chunks
 
-    pub step_chunks : (call : DepotCall) (reply : DepotReply) → DepotStep s c call reply → StoreStep s c call reply m (Some o) → HasChunks m → HasChunks o
-    step_chunks (Fetch lease index) (Fetched chunk) step stores h = same_chunks stores.0 h
-    step_chunks (Fetch lease index) (Spoiled k) step stores h = same_chunks stores.0 h
-    step_chunks (PutChunk n chunk) Kept step stores h = elim stores.3 [ inl p ↦ same_chunks p.1 h | inr p ↦ chunk_chunks n (arc_value chunk) stores.0 Done stores.1 stores.2 p.1 h ]
-    step_chunks (PutChunk n chunk) (Fault k) step stores h = chunk_chunks n (arc_value chunk) k Failed step.0 stores.0 stores.1 h
-    step_chunks (PutChunk n chunk) (Spoiled k) step stores h = same_chunks stores.1 h
-    step_chunks (PutManifest n p) (Made r) step stores h = manifest_chunks n stores.0 r stores.1.number (spelling (arc_value p)) Done stores.1.session stores.2 h
-    step_chunks (PutManifest n p) (Fault k) step stores h = manifest_chunks n step.0 step.1 step.2 (spelling (arc_value p)) Failed step.3.session (subst (λ k. Puts s k (spelling (arc_value p)) Failed m (Some o)) step.4 stores) h
-    step_chunks (PutManifest n p) (Spoiled k) step stores h = same_chunks stores.1 h
-    step_chunks (Rotate bytes) (Rotated r) step stores h = root_chunks step.0 bytes Done step.1 (subst (λ r. Puts s (kind.Root r) bytes Done m (Some o)) step.2 stores) h
-    step_chunks (Rotate bytes) (Fault k) step stores h = root_chunks step.0 bytes Failed step.1 (subst (λ k. Puts s k bytes Failed m (Some o)) step.2 stores) h
-    step_chunks (Rotate bytes) (Spoiled k) step stores h = same_chunks stores.1 h
-    step_chunks call reply step stores h = same_chunks stores h
+    keeps_chunks : OfEach s c (λ call reply n t. StoreStep s c call reply m (Some o) → HasChunks m → HasChunks o)
+    keeps_chunks = record {
+      quiet = λ call reply n t q stores h. same_chunks (q.objects m (Some o) stores) h;
+      opened = λ image a p r may stores h. same_chunks stores h;
+      closed = λ lease out stores h. same_chunks stores h;
+      began = λ image root bytes may salted stores h. same_chunks stores h;
+      chunk = λ n chunk name j holds is stores h. elim stores.3 [ inl p ↦ same_chunks p.1 h | inr p ↦ chunk_chunks n (arc_value chunk) stores.0 Done stores.1 stores.2 p.1 h ];
+      chunk_doubted = λ n chunk name k is put away stores h. chunk_chunks n (arc_value chunk) k Failed put stores.0 stores.1 h;
+      made = λ n a p r image d is may stores h. manifest_chunks n stores.0 r stores.1.number (spelling (arc_value a)) Done stores.1.session stores.2 h;
+      making = λ n a p r image d is may stores h. manifest_chunks n image r d (spelling (arc_value a)) Failed may.session stores h;
+      abandoned = λ n j holds stores h. same_chunks stores h;
+      rotated = λ i bytes may stores h. root_chunks i bytes Done may stores h;
+      rotating = λ i bytes may stores h. root_chunks i bytes Failed may stores h;
+      moving = λ image from to a p may stores h. same_chunks stores h;
+      moved = λ n image from to p may stores h. move_chunks n stores.0 from to stores.1 Done stores.2 stores.3 h;
+      move_doubted = λ n image from to p may stores h.
+          let puts : Puts s (kind.Manifest to image) (spelling stores.3) Failed m (Some o) = stores.6 in
+          copied_chunks n image from to p (spelling stores.3) Failed may puts h;
+      bare_put = λ call reply n t k b stores h. bare_chunks k b.key Done m o (b.objects m (Some o) stores) h;
+      bare_doubted = λ call n k b stores h. bare_chunks k b.key Failed m o (b.objects m (Some o) stores) h;
+      removed = λ r k next stores h. removed_chunks m o (key_text k) stores h;
+      removing = λ r k next stores h. removing_chunks k m o stores h;
+      found = λ k x may stores h. same_chunks stores.0 h;
+      missed = λ k x may stores h. same_chunks stores.0 h;
+      reaped = λ n j out own stores h. same_chunks stores h;
+    }
 
   module _ (lease index : ℕ) (k : KeyKind) (m : Objects) (fetch : IsFetch s lease index k) (f : Follows s.known m) (chunks : HasChunks m) where
     abbrev own : KeyKind
@@ -239,6 +311,42 @@ module _ (s : State) (h : IsSafe s) (c : ℕ) where
       subst (λ k. IsChunkBody k object.0) (sym fetch.key) (chunks fetch.home fetch.name.bytes object.0 of object.1),
     )
 
+  module _ (n index : ℕ) (k : KeyKind) (m : Objects) (copy : IsCopy s n c index k) (f : Follows s.known m) (chunks : HasChunks m) where
+    abbrev copied : KeyKind
+    copied = kind.Chunk copy.from copy.name.bytes
+
+    copied_whole : IsComplete f.0 copy.from copy.manifest
+    copied_whole =
+        let w : Works f.0 (Moves copy.image copy.from copy.to copy.manifest) = (h.good f.0 f.1).works n _ copy.session in
+        (h.good f.0 f.1).sound.complete copy.image copy.from copy.manifest (w.0.0, w.0.1) w.2
+
+    copied_has : Has f.0 copied
+    copied_has =
+        subst (λ (l : Name). Has f.0 (kind.Chunk copy.from l.bytes)) (get_or_from_slice_get copy.manifest.names index copy.name copy.name copy.named)
+        (copied_whole index copy.name (slice_get_within copy.manifest.names index copy.name copy.named))
+
+    copied_object : (body : List ℕ) × (map.get m (key_text copied) ≡ Some body)
+    copied_object = seen_object copied (map.get m (key_text copied)) (map.get f.0 copied) (f.2.each copied (f.2.kinds copied copied_has)) copied_has
+
+    -- The chunk of a copied manifest is in the store, under its name.
+    pub copy_there : (body : List ℕ) × (map.get m (key_text k) ≡ Some body) × IsChunkBody k body
+    copy_there = (
+      copied_object.0,
+      ap (λ k. map.get m (key_text k)) copy.key ∙ copied_object.1,
+      subst (λ k. IsChunkBody k copied_object.0) (sym copy.key) (chunks copy.from copy.name.bytes copied_object.0 (f.2.kinds copied copied_has) copied_object.1),
+    )
+
+  -- no empty object is there that isn't known
+  bare_spoiled : (k q : KeyKind) (m : Objects) → Follows s.known m → MayPutBare s k → q ≡ k → map.get s.known.doubts q ≡ None → IsSome (map.get m (key_text q)) → ⊥
+  bare_spoiled k q m f key e sure some =
+      known_object s.known k m (key.grammar h) key.absent (ap (map.get s.known.doubts) (sym e) ∙ sure) f (subst (λ k. IsSome (map.get m (key_text k))) e some)
+
+  -- what is found of a put in doubt is what was put
+  found_put : (k : KeyKind) (x y : Held) (body : List ℕ) (m : Objects) → Follows s.known m → HasChunks m → MaySettle s k x → map.get s.known.doubts k ≡ Some y → map.get m (key_text k) ≡ Some body → IsBodyPut k y body
+  found_put k x y body m f chunks may here found =
+      let of : IsKind k = doubt_kind s h k x may.here in
+      subst (λ z. IsBodyPut k z body) (same_some x y (sym may.here ∙ here)) (body_put_of k x body of (λ r name e. chunks r name body (subst IsKind e of) (subst (λ q. map.get m (key_text q) ≡ Some body) e found)) (look_body s.known k x m of may.here may.absent f body found))
+
   -- no reply tells of a spoiled key
   pub never_spoiled : (call : DepotCall) (k : KeyKind) (m : Objects) (o : Option Objects) → Follows s.known m → HasChunks m → DepotStep s c call (Spoiled k) → StoreStep s c call (Spoiled k) m o → ⊥
   never_spoiled (Fetch lease index) k m o f chunks step stores =
@@ -255,20 +363,39 @@ module _ (s : State) (h : IsSafe s) (c : ℕ) where
   never_spoiled (Rotate bytes) k m o f chunks step stores =
       let may : MayRotate s step.0 bytes = step.1 in
       known_object s.known (kind.Root (step.0 + 1)) m (root_kind step.0 bytes may) (root_new step.0 bytes may) may.sure f (subst (λ k. IsSome (map.get m (key_text k))) step.2 stores.0)
+  never_spoiled (CopyRead n index) k m o f chunks step stores =
+      let there : (body : List ℕ) × (map.get m (key_text k) ≡ Some body) × IsChunkBody k body = copy_there n index k m step f chunks in
+      let spoiled : IsSpoiled k (Some there.0) = subst (IsSpoiled k) there.1 stores.1 in
+      spoiled there.2
+  never_spoiled (FinishMigrate n) k m o f chunks step stores =
+      let may : MayMove s n c step.0 step.1 step.2 step.3 = step.4 in
+      known_object s.known (kind.Manifest step.2 step.0) m (move_kind s h n c step.0 step.1 step.2 step.3 may.session) (none_yet s h n c step.0 step.1 step.2 step.3 may) may.sure f
+      (subst (λ k. IsSome (map.get m (key_text k))) step.5 stores.0)
+  never_spoiled (Withdraw image) k m o f chunks step stores = bare_spoiled (kind.Withdrawn image) k m f (withdrawn_key s image step.0) step.1 step.2 stores.0
+  never_spoiled (Expire r) k m o f chunks step stores = bare_spoiled (kind.Expired r) k m f (expired_key s r step.0) step.1 step.2 stores.0
+  never_spoiled (Delete r) k m o f chunks step stores = bare_spoiled (kind.Deleted r) k m f (deleted_key s r step.0) step.1 step.2 stores.0
+  never_spoiled (Settle q) k m o f chunks step stores = stores.1.4 (found_put q step.0.0 stores.1.0 stores.1.1 m f chunks step.0.1 stores.1.2 stores.1.3)
   never_spoiled call k m o f chunks step stores = absurd step
 
-module _ (s : State) (h : IsSafe s) (e : LogEntry) (call : DepotCall) (reply : DepotReply) (m n : Objects) (step : DepotStep s e.caller call reply) (stores : StoreStep s e.caller call reply m (Some n)) where
-  pub entry_follows : Enters call reply e → Follows s.known m → Follows (after_entry s e).known n
-  entry_follows enters f = follows s h e.caller m n call reply e.call e.reply step enters.noted enters.told stores f
+module _ (s : State) (h : IsSafe s) (e : LogEntry) (call : DepotCall) (reply : DepotReply) (m n : Objects) (step : DepotStep s e.caller call reply) (stores : StoreStep s e.caller call reply m (Some n)) (enters : Enters call reply e) where
+  pub entry_follows : Follows s.known m → Follows (after_entry s e).known n
+  entry_follows f = of_each s e.caller (λ call reply i t. StoreStep s e.caller call reply m (Some n) → Follows s.known m → Follows (state_after s e.caller i t).known n) (follows s h e.caller m n) call reply e.call e.reply step enters.noted enters.told stores f
 
   pub entry_chunks : HasChunks m → HasChunks n
-  entry_chunks chunks = step_chunks s h e.caller m n call reply step stores chunks
+  entry_chunks chunks = of_each s e.caller (λ call reply i t. StoreStep s e.caller call reply m (Some n) → HasChunks m → HasChunks n) (keeps_chunks s h e.caller m n) call reply e.call e.reply step enters.noted enters.told stores chunks
 
 pub leads_follows : (s : State) (m : Objects) (log : List LogEntry) (n : Objects) → IsSafe s → LeadsTo s m log n → Follows s.known m × HasChunks m → Follows (run s log).known n × HasChunks n
 leads_follows s m [] n h leads f = subst (λ n. Follows s.known n × HasChunks n) (sym leads) f
 leads_follows s m (e ∷ es) n h leads f =
     leads_follows (after_entry s e) leads.2 es n (entry_safe s h e leads.0 leads.1 leads.3 leads.4) leads.6
-    (entry_follows s h e leads.0 leads.1 m leads.2 leads.3 leads.5 leads.4 f.0, entry_chunks s h e leads.0 leads.1 m leads.2 leads.3 leads.5 f.1)
+    (entry_follows s h e leads.0 leads.1 m leads.2 leads.3 leads.5 leads.4 f.0, entry_chunks s h e leads.0 leads.1 m leads.2 leads.3 leads.5 leads.4 f.1)
+
+-- The store follows without its chunks being asked.
+pub leads_on : (s : State) (m : Objects) (log : List LogEntry) (n : Objects) → IsSafe s → LeadsTo s m log n → Follows s.known m → Follows (run s log).known n
+leads_on s m [] n h leads f = subst (Follows s.known) (sym leads) f
+leads_on s m (e ∷ es) n h leads f =
+    leads_on (after_entry s e) leads.2 es n (entry_safe s h e leads.0 leads.1 leads.3 leads.4) leads.6
+    (entry_follows s h e leads.0 leads.1 m leads.2 leads.3 leads.5 leads.4 f)
 
 -- The way out that the store took is good.
 pub followed_sound : (s : State) (m : Objects) → IsSafe s → Follows s.known m → HasChunks m → IsSoundStore m

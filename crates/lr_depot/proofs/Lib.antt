@@ -6,6 +6,9 @@ pub mod Numbers
 pub mod Ready
 pub mod Bodies
 pub mod Puts
+pub mod Tables
+pub mod Making
+pub mod Found
 pub mod Logged
 pub mod Digests
 pub mod Moved
@@ -13,8 +16,15 @@ pub mod Stored
 pub mod Followed
 pub mod Owing
 pub mod Did
-pub mod Ending
+pub mod Cases
+pub mod Settling
 pub mod Places
 pub mod NextNumbers
 pub mod Whole
 pub mod Starting
+pub mod Closing
+pub mod Drawing
+pub mod Walked
+pub mod States
+pub mod Served
+pub mod Lasting

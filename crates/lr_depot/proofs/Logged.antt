@@ -11,11 +11,12 @@ use Rattle.lr_origin.specs.Objects.{Objects}
 use Rattle.lr_origin.specs.Text.{key_text}
 use Rattle.lr_origin.specs.declared.key.KeyKind.{KeyKind}
 use Rattle.lr_origin.specs.declared.key.KeyKind.TheVariants.{Root, Manifest}
+use Rattle.lr_origin.specs.declared.key.KeyKind.TheVariants as kind
 use Rattle.lr_rules.specs.State.{State}
 use Rattle.lr_depot.specs.declared.call.DepotCall.{DepotCall}
-use Rattle.lr_depot.specs.declared.call.DepotCall.TheVariants.{Fetch, PutChunk, PutManifest, Rotate}
+use Rattle.lr_depot.specs.declared.call.DepotCall.TheVariants.{Fetch, PutChunk, PutManifest, Rotate, CopyRead, FinishMigrate, Withdraw, Expire, Delete, Sweep, Settle}
 use Rattle.lr_depot.specs.declared.call.DepotReply.{DepotReply}
-use Rattle.lr_depot.specs.declared.call.DepotReply.TheVariants.{Fetched, Kept, Made, Rotated, Fault, Spoiled}
+use Rattle.lr_depot.specs.declared.call.DepotReply.TheVariants.{Fetched, Kept, Made, Rotated, Copied, Moved, Withdrawn, Expired, Deleted, Removed, There, Absent, Fault, Spoiled}
 use Rattle.lr_depot.specs.declared.put.PutEnd.{PutEnd}
 use Rattle.lr_depot.specs.declared.put.PutEnd.TheVariants.{Kept as Done, Fault as Failed, Spoiled as Bad, OutOfMemory as Unmade}
 use Rattle.lr_depot.specs.Machine.{LogEntry, DepotStep, Enters, after_entry, run}
@@ -60,6 +61,25 @@ store_tells s c (PutManifest session p) (Spoiled k) m o h = put_told s k (spelli
 store_tells s c (Rotate bytes) (Rotated r) m o h = put_told s (Root r) bytes Done m o h
 store_tells s c (Rotate bytes) (Fault k) m o h = put_told s k bytes Failed m o h
 store_tells s c (Rotate bytes) (Spoiled k) m o h = put_told s k bytes Bad m o h
+store_tells s c (CopyRead n index) (Copied chunk) m o h = (m, h.0)
+store_tells s c (CopyRead n index) (Spoiled k) m o h = (m, h.0)
+store_tells s c (FinishMigrate n) (Moved from to) m o h = put_told s (Manifest to h.0) (spelling h.1) Done m o h.3
+store_tells s c (FinishMigrate n) (Fault k) m o h = put_told s k (spelling h.3) Failed m o h.6
+store_tells s c (FinishMigrate n) (Spoiled k) m o h = (m, h.1)
+store_tells s c (Withdraw image) Withdrawn m o h = put_told s (kind.Withdrawn image) [] Done m o h
+store_tells s c (Withdraw image) (Fault k) m o h = put_told s k [] Failed m o h
+store_tells s c (Withdraw image) (Spoiled k) m o h = put_told s k [] Bad m o h
+store_tells s c (Expire r) Expired m o h = put_told s (kind.Expired r) [] Done m o h
+store_tells s c (Expire r) (Fault k) m o h = put_told s k [] Failed m o h
+store_tells s c (Expire r) (Spoiled k) m o h = put_told s k [] Bad m o h
+store_tells s c (Delete r) Deleted m o h = put_told s (kind.Deleted r) [] Done m o h
+store_tells s c (Delete r) (Fault k) m o h = put_told s k [] Failed m o h
+store_tells s c (Delete r) (Spoiled k) m o h = put_told s k [] Bad m o h
+store_tells s c (Sweep r) (Removed k) m o h = (map.remove m (key_text k), h)
+store_tells s c (Sweep r) (Fault k) m o h = elim h [ inl e ↦ (m, e) | inr e ↦ (map.remove m (key_text k), e) ]
+store_tells s c (Settle k) There m o h = (m, h.0)
+store_tells s c (Settle k) Absent m o h = (m, h.0)
+store_tells s c (Settle k) (Spoiled q) m o h = (m, h.0)
 store_tells s c call reply m o h = (m, h)
 
 one_fault : (e : LogEntry) (b : Bool) → is_fault e ≡ b → fault_count (e ∷ []) ≡ cond b 1 0

@@ -81,7 +81,7 @@ module _ {X : Type 0} where
       by later (inl t) = let is : Some y.1 ≡ Some x = sym (cond-true _ (Some y.1) (find nat_cmp n es) t) ∙ e in inl (same (cc) (same_number n y.0 t))
       by later (inr f) = inr (later (sym (cond-false _ (Some y.1) (find nat_cmp n es) f) ∙ e))
 
-  above : (k : ℕ) (es : List (ℕ × X)) → AllByRecursion (λ y. nat_cmp k y ≡ Less) (map (λ e. e.0) es) → (n : ℕ) (x : X) → IsOneOf es (n, x) → nat_cmp k n ≡ Less
+  pub above : (k : ℕ) (es : List (ℕ × X)) → AllByRecursion (λ y. nat_cmp k y ≡ Less) (map (λ e. e.0) es) → (n : ℕ) (x : X) → IsOneOf es (n, x) → nat_cmp k n ≡ Less
   above k [] h n x i = absurd i
   above k (y ∷ es) h n x (inl e) = ap (λ (p : ℕ × X). nat_cmp k p.0) e ∙ h.0
   above k (y ∷ es) h n x (inr i) = above k es h.1 n x i

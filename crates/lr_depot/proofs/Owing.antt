@@ -3,50 +3,63 @@ use Rattle.std.proofs.Common.{◌≡◌, ◌≤◌, ◌<◌, ◌+◌, ℕ, zero,
 use Rattle.std.specs.Arc.{arc_value}
 use Rattle.std.specs.List.{slice_get}
 use Rattle.std.specs.FinMap as map
-use Rattle.lr_manifest.specs.Manifest.{Fields}
+use Rattle.lr_manifest.specs.Manifest.{ManifestFields}
 use Rattle.lr_manifest.specs.declared.name.Name.{Name}
 use Rattle.lr_origin.specs.declared.key.KeyKind.TheVariants as kind
-use Rattle.lr_roots.specs.View.{View, Held}
+use Rattle.lr_roots.specs.View.{View, Held, manifest}
 use Rattle.lr_roots.specs.Roots.{IsHomed}
-use Rattle.lr_rules.specs.State.{Job, Creates, State, Holds, target}
+use Rattle.lr_rules.specs.State.{Job, Desk, State, Holds, target}
 use Rattle.lr_rules.specs.Start.{started, MayStart}
 use Rattle.lr_rules.specs.Safe.{IsSafe, Keeps}
-use Rattle.lr_rules.specs.Calls.{made}
+use Rattle.lr_rules.specs.Calls.{made, settled_there}
 use Rattle.lr_rules.proofs.Doubts.{same_some}
-use Rattle.lr_rules.proofs.Keeps.{known_is_homed, made_keeps}
+use Rattle.lr_rules.proofs.Keeps.{known_is_homed, made_keeps, found_keeps}
 use Rattle.lr_rules.proofs.Serving.{leased_home}
+use Rattle.lr_rules.proofs.Facts.{homed_always}
+use Rattle.lr_rules.proofs.Calls.{all_sound}
+use Rattle.lr_rules.specs.Known.{Settles}
 use Rattle.lr_rules.proofs.Start.{start_safe}
-use Rattle.lr_depot.specs.declared.call.DepotCall.{DepotCall}
-use Rattle.lr_depot.specs.declared.call.DepotCall.TheVariants.{OpenImage, Fetch, Close, BeginCreate, PutChunk, PutManifest, Abandon, Rotate, Reap}
 use Rattle.lr_depot.specs.declared.call.DepotNoted.{DepotNoted}
 use Rattle.lr_depot.specs.declared.call.DepotNoted.TheVariants as noted
-use Rattle.lr_depot.specs.declared.call.DepotReply.{DepotReply}
-use Rattle.lr_depot.specs.declared.call.DepotReply.TheVariants.{NoImage, Opened, NoLease, NoChunk, Fetched, Closed, NoRoot, Taken, Doubt, Full, Began, NoSession, Kept, Nonce, Missing, Made, Abandoned, RootsEnd, Rotated, Reaped, Nothing, Fault, Spoiled, OutOfMemory}
 use Rattle.lr_depot.specs.declared.call.DepotTold.{DepotTold}
 use Rattle.lr_depot.specs.declared.call.DepotTold.TheVariants as told
-use Rattle.lr_depot.specs.Machine.{LogEntry, DepotStep, state_after, after_entry, run, IsNoted, IsTold}
+use Rattle.lr_depot.specs.Machine.{LogEntry, state_after, after_entry, run}
 use Rattle.lr_depot.specs.Drawn.{number_told}
-use Rattle.lr_depot.specs.Owed.{Acknowledges, IsMade, IsKnown, IsOwed}
+use Rattle.lr_depot.specs.Owed.{MakesImage, FindsImage, Acknowledges, IsMade, IsKnown, IsOwed}
 use Rattle.lr_depot.specs.Store.{IsRun}
-use Rattle.lr_depot.proofs.Moved.{IsStill, still, fetched_still, entry_safe, run_safe, run_keeps}
+use Rattle.lr_depot.proofs.Cases.{OfEach, of_each}
+use Rattle.lr_depot.proofs.Found.{found_rest}
+use Rattle.lr_depot.proofs.Moved.{entry_safe, run_safe, run_keeps}
+
+-- a manifest that was found there is known
+found_image : (s : State) (e : LogEntry) (image : List ℕ) (m : ManifestFields) → FindsImage s e image m → Keeps (after_entry s e) image m
+found_image s e image m a =
+    subst (λ t. Keeps t image m) (sym (ap (λ n. state_after s e.caller n e.reply) a.1 ∙ ap (state_after s e.caller (noted.Settle (kind.Manifest a.0 image))) a.2 ∙ found)) (found_keeps s a.0 image m)
+  where
+    found : state_after s e.caller (noted.Settle (kind.Manifest a.0 image)) told.There ≡ settled_there s (kind.Manifest a.0 image) (manifest m)
+    found = rw a.3 refl
 
 -- an acknowledged creation leaves its manifest known
-acknowledged : (s : State) (e : LogEntry) (image : List ℕ) (m : Fields) → Acknowledges s e image m → Keeps (after_entry s e) image m
-acknowledged s e image m a =
+made_image : (s : State) (e : LogEntry) (image : List ℕ) (m : ManifestFields) → MakesImage s e image m → Keeps (after_entry s e) image m
+made_image s e image m a =
     subst (λ t. Keeps t image m) (sym (ap (λ n. state_after s e.caller n e.reply) a.4 ∙ ap (state_after s e.caller (noted.PutManifest a.0 a.3)) a.5 ∙ put))
     (subst (λ l. Keeps (made s a.0 image a.1 (arc_value a.3)) image l) a.7 (made_keeps s a.0 image a.1 (arc_value a.3)))
   where
     put : state_after s e.caller (noted.PutManifest a.0 a.3) (told.Made a.1) ≡ made s a.0 image a.1 (arc_value a.3)
     put = rw a.6 refl
 
-made_kept : (s : State) (log : List LogEntry) (image : List ℕ) (m : Fields) → IsSafe s → IsRun s log → IsMade s log image m → Keeps (run s log) image m
+acknowledged : (s : State) (e : LogEntry) (image : List ℕ) (m : ManifestFields) → Acknowledges s e image m → Keeps (after_entry s e) image m
+acknowledged s e image m (inl a) = made_image s e image m a
+acknowledged s e image m (inr a) = found_image s e image m a
+
+made_kept : (s : State) (log : List LogEntry) (image : List ℕ) (m : ManifestFields) → IsSafe s → IsRun s log → IsMade s log image m → Keeps (run s log) image m
 made_kept s [] image m h is a = absurd a
 made_kept s (e ∷ es) image m h is (inl a) = run_keeps (after_entry s e) es (entry_safe s h e is.0 is.1 is.2 is.3) is.4 image m (acknowledged s e image m a)
 made_kept s (e ∷ es) image m h is (inr a) = made_kept (after_entry s e) es image m (entry_safe s h e is.0 is.1 is.2 is.3) is.4 a
 
 module _ (v : View) (next : ℕ) (log : List LogEntry) (may : MayStart v next) (is : IsRun (started v next) log) where
   -- A known image has its manifest while it isn't withdrawn.
-  pub known_keeps : (image : List ℕ) (m : Fields) → IsKnown (started v next) log image m → Keeps (run (started v next) log) image m
+  pub known_keeps : (image : List ℕ) (m : ManifestFields) → IsKnown (started v next) log image m → Keeps (run (started v next) log) image m
   known_keeps image m (inl k) = run_keeps (started v next) log (start_safe v next may) is image m (λ kept. (k.0, k.2))
   known_keeps image m (inr k) = made_kept (started v next) log image m (start_safe v next may) is k
 
@@ -56,6 +69,15 @@ module _ (v : View) (next : ℕ) (log : List LogEntry) (may : MayStart v next) (
       let home = known_is_homed (run (started v next) log) (run_safe (started v next) log (start_safe v next may) is) image o.0.0 (known_keeps image o.0.0 o.0.1) o.1 in
       (home.0, home.1, home.2)
   owed_is_homed image (inr o) = leased_home (run (started v next) log) (run_safe (started v next) log (start_safe v next may) is) o.0 image o.1 o.2
+
+  -- It has one in every way in which the doubts can come out.
+  pub owed_always : (image : List ℕ) → IsOwed (started v next) log image → (w : View) → Settles (run (started v next) log).known w → IsHomed w image
+  owed_always image (inl o) w t =
+      let safe : IsSafe (run (started v next) log) = run_safe (started v next) log (start_safe v next may) is in
+      let home = known_is_homed (run (started v next) log) safe image o.0.0 (known_keeps image o.0.0 o.0.1) o.1 in
+      homed_always (run (started v next) log).known safe.agrees (all_sound (run (started v next) log) safe) image home.0 home.1.listed home.1.live.1 o.1 w t
+  owed_always image (inr o) w t =
+      (((run_safe (started v next) log (start_safe v next may) is).good w t).leased o.0 image o.1 o.2).0
 
 -- the creation number that the log tells, if it tells one
 -- A creation number that is told is the next one, and then the next is one more.
@@ -68,19 +90,9 @@ abbrev pub AreDrawn : ℕ → List LogEntry → ℕ → Type 0
 AreDrawn next [] end = end ≡ next
 AreDrawn next (e ∷ es) end = (after : ℕ) × IsDrawn (number_told e.reply) next after × AreDrawn after es end
 
-still_untold : (t : DepotTold) → IsStill t → number_told t ≡ None
-still_untold (told.Began session root bytes number) q = absurd q
-still_untold t q = refl
-
 module _ (s : State) (c : ℕ) where
   abbrev Draws : DepotNoted → DepotTold → Type 0
   Draws n t = IsDrawn (number_told t) s.desk.next_number (state_after s c n t).desk.next_number
-
-  as_kept : (n i : DepotNoted) (t u : DepotTold) → n ≡ i → t ≡ u → Draws i u → Draws n t
-  as_kept n i t u e f draws = subst (λ n. Draws n t) (sym e) (subst (λ t. Draws i t) (sym f) draws)
-
-  unmoved : (n : DepotNoted) (t : DepotTold) → IsStill t → Draws n t
-  unmoved n t q = subst (λ o. IsDrawn o s.desk.next_number (state_after s c n t).desk.next_number) (sym (still_untold t q)) (ap (λ (a : State). a.desk.next_number) (still s c n t q))
 
   chunk_draws : (n : ℕ) (j : Job) (name : Name) → Holds s n c j → Draws (noted.PutChunk n name) told.Kept
   chunk_draws n j name holds = by (map.get s.known.view (kind.Chunk (target j) name.bytes)) refl
@@ -89,53 +101,36 @@ module _ (s : State) (c : ℕ) where
       by None e = rw holds (rw e refl)
       by (Some x) e = rw holds (rw e refl)
 
-  manifest_draws : (n : ℕ) (image : List ℕ) (r d : ℕ) (p : _) → Holds s n c (Creates image r d) → Draws (noted.PutManifest n p) (told.Made r)
-  manifest_draws n image r d p holds = rw holds refl
-
-  draws : (call : DepotCall) (reply : DepotReply) (n : DepotNoted) (t : DepotTold) → DepotStep s c call reply → IsNoted call n → IsTold reply t → Draws n t
-  draws (OpenImage image) (Opened lease p) n (told.Opened other q) step kept tells = as_kept n (noted.OpenImage image) (told.Opened other q) (told.Opened other q) kept refl refl
-  draws (Fetch lease index) (Fetched chunk) n t step kept tells = unmoved n t (fetched_still chunk t tells)
-  draws (Fetch lease index) (Fault k) n t step kept tells = as_kept n (noted.Fetch lease index) t (told.Fault k) kept tells refl
-  draws (Close lease) Closed n t step kept tells = as_kept n (noted.Close lease) t told.Closed kept tells refl
-  draws (BeginCreate image) (Began session root bytes number) n t step kept tells =
-      as_kept n (noted.BeginCreate image) t (told.Began session root bytes number) kept tells (step.2, ap (λ d. d + 1) step.2)
-  draws (PutChunk n chunk) Kept (noted.PutChunk i name) t step kept tells =
-      as_kept (noted.PutChunk i name) (noted.PutChunk n name) t told.Kept (ap (λ n. noted.PutChunk n name) kept.0) tells (chunk_draws n step.0 name step.1)
-  draws (PutChunk n chunk) (Fault k) (noted.PutChunk i name) t step kept tells = as_kept (noted.PutChunk i name) (noted.PutChunk i name) t (told.Fault k) refl tells refl
-  draws (PutManifest n p) (Made r) (noted.PutManifest i q) t step kept tells =
-      as_kept (noted.PutManifest i q) (noted.PutManifest n q) t (told.Made r) (ap (λ n. noted.PutManifest n q) kept.0) tells (manifest_draws n step.0 r step.1 q step.2.session)
-  draws (PutManifest n p) (Fault k) (noted.PutManifest i q) t step kept tells =
-      as_kept (noted.PutManifest i q) (noted.PutManifest i q) t (told.Fault (kind.Manifest step.1 step.0)) refl (tells ∙ ap told.Fault step.4) refl
-  draws (Abandon n) Abandoned i t step kept tells = as_kept i (noted.Abandon n) t told.Abandoned kept tells refl
-  draws (Rotate bytes) (Rotated r) n t step kept tells = as_kept n (noted.Rotate bytes) t (told.Rotated r) kept tells refl
-  draws (Rotate bytes) (Fault k) n t step kept tells = as_kept n (noted.Rotate bytes) t (told.Fault k) kept tells refl
-  draws Reap Reaped n t step kept tells = as_kept n noted.Reap t told.Reaped kept tells refl
-  draws call NoImage n t step kept tells = unmoved n t (subst IsStill (sym tells) tt)
-  draws call NoLease n t step kept tells = unmoved n t (subst IsStill (sym tells) tt)
-  draws call NoChunk n t step kept tells = unmoved n t (subst IsStill (sym tells) tt)
-  draws call NoRoot n t step kept tells = unmoved n t (subst IsStill (sym tells) tt)
-  draws call Taken n t step kept tells = unmoved n t (subst IsStill (sym tells) tt)
-  draws call (Doubt k) n t step kept tells = unmoved n t (subst IsStill (sym tells) tt)
-  draws call Full n t step kept tells = unmoved n t (subst IsStill (sym tells) tt)
-  draws call NoSession n t step kept tells = unmoved n t (subst IsStill (sym tells) tt)
-  draws call Nonce n t step kept tells = unmoved n t (subst IsStill (sym tells) tt)
-  draws call (Missing i) n t step kept tells = unmoved n t (subst IsStill (sym tells) tt)
-  draws call RootsEnd n t step kept tells = unmoved n t (subst IsStill (sym tells) tt)
-  draws call (Spoiled k) n t step kept tells = unmoved n t (subst IsStill (sym tells) tt)
-  draws call Nothing n t step kept tells = absurd tells
-  draws call OutOfMemory n t step kept tells = absurd tells
-  draws (OpenImage image) (Opened lease p) n t step kept tells = absurd tells
-  draws (PutChunk n chunk) Kept i t step kept tells = absurd kept
-  draws (PutChunk n chunk) (Fault k) i t step kept tells = absurd kept
-  draws (PutManifest n p) (Made r) i t step kept tells = absurd kept
-  draws (PutManifest n p) (Fault k) i t step kept tells = absurd kept
-  draws call reply n t step kept tells = absurd step
+  draws : OfEach s c (λ call reply n t. Draws n t)
+  draws = record {
+    quiet = λ call reply n t q. subst (λ o. IsDrawn o s.desk.next_number (state_after s c n t).desk.next_number) (sym q.untold) (ap (λ (a : State). a.desk.next_number) q.state);
+    opened = λ image m p r may. refl;
+    closed = λ lease out. refl;
+    began = λ image root bytes may salted. (refl, refl);
+    chunk = λ n chunk name j holds is. chunk_draws n j name holds;
+    chunk_doubted = λ n chunk name k is put away. refl;
+    made = λ n m p r image d is may. rw may.session refl;
+    making = λ n m p r image d is may. refl;
+    abandoned = λ n j holds. refl;
+    rotated = λ i bytes may. refl;
+    rotating = λ i bytes may. refl;
+    moving = λ image from to m p may. refl;
+    moved = λ n image from to m may. rw may.session refl;
+    move_doubted = λ n image from to m may. rw may.session refl;
+    bare_put = λ call reply n t k b. subst (λ o. IsDrawn o s.desk.next_number (state_after s c n t).desk.next_number) (sym b.untold) (ap (λ (a : State). a.desk.next_number) b.state);
+    bare_doubted = λ call n k b. ap (λ (a : State). a.desk.next_number) b.state;
+    removed = λ r k next. refl;
+    removing = λ r k next. rw next.may.here refl;
+    found = λ k x may. rw may.here (ap (λ (d : Desk). d.next_number) (found_rest s k x));
+    missed = λ k x may. refl;
+    reaped = λ n j out own. refl;
+  }
 
 -- A run draws its creation numbers one after the other.
 pub numbers_ascend : (s : State) (log : List LogEntry) → IsRun s log → AreDrawn s.desk.next_number log (run s log).desk.next_number
 numbers_ascend s [] is = refl
 numbers_ascend s (e ∷ es) is =
-    ((after_entry s e).desk.next_number, draws s e.caller is.0 is.1 e.call e.reply is.2 is.3.noted is.3.told, numbers_ascend (after_entry s e) es is.4)
+    ((after_entry s e).desk.next_number, of_each s e.caller (λ call reply n t. Draws s e.caller n t) (draws s e.caller) is.0 is.1 e.call e.reply is.2 is.3.noted is.3.told, numbers_ascend (after_entry s e) es is.4)
 
 drawn_more : (o : Option ℕ) (next after : ℕ) → IsDrawn o next after → next ≤ after
 drawn_more None next after e = omega (arith, e)
@@ -182,3 +177,7 @@ numbers_apart s log is i j e f a b less at_i at_j tells_a tells_b =
       (drawn_within (run s log).desk.next_number log s.desk.next_number drawn i e a at_i tells_a).0,
       drawn_apart (run s log).desk.next_number log s.desk.next_number drawn i j e f a b less at_i at_j tells_a tells_b,
     )
+
+-- Each creation number of a run is at least the next one at its start.
+pub numbers_above : (s : State) (log : List LogEntry) → IsRun s log → (i : ℕ) (e : LogEntry) (a : ℕ) → slice_get log i ≡ Some e → number_told e.reply ≡ Some a → s.desk.next_number ≤ a
+numbers_above s log is i e a at tells = (drawn_within (run s log).desk.next_number log s.desk.next_number (numbers_ascend s log is) i e a at tells).0

@@ -1,14 +1,16 @@
 -- How many leases and sessions are out after an entry of the log.
+use Rattle.std.specs.Prelude.{⊤}
 use Rattle.std.proofs.Common.{◌≡◌, ◌≢◌, ◌≤◌, ◌<◌, ◌+◌, ◌-◌, ℕ, List, [], ◌∷◌, Option, Some, None, IsSome, Bool, true, false, cond, refl, sym, ap, subst, ◌∙◌, inl, inr, arith}
 use Rattle.std.specs.Arc.{arc_value}
 use Rattle.std.specs.Ordering.{nat_cmp}
 use Rattle.std.specs.Cmp.{nat_cmp_total}
 use Rattle.std.specs.FinMap as map
 use Rattle.std.specs.FinMap.{FinMap, len-insert, len-remove}
-use Rattle.lr_manifest.specs.Manifest.{Fields}
+use Rattle.lr_manifest.specs.Manifest.{ManifestFields}
 use Rattle.lr_origin.specs.declared.key.KeyKind.{KeyKind}
 use Rattle.lr_origin.specs.declared.key.KeyKind.TheVariants as kind
-use Rattle.lr_roots.specs.View.{Held}
+use Rattle.lr_roots.specs.View.{Held, manifest}
+use Rattle.lr_rules.specs.Calls.{ended, settled_there}
 use Rattle.lr_roots.specs.Names.{IsOneOf}
 use Rattle.lr_rules.specs.State.{Job, Creates, Moves, Session, State, Holds, target}
 use Rattle.lr_rules.proofs.Keys.{no_some, cases_n, gone_n}
@@ -18,10 +20,10 @@ use Rattle.lr_depot.specs.declared.call.DepotCall.TheVariants.{Close, Abandon, R
 use Rattle.lr_depot.specs.declared.call.DepotNoted.{DepotNoted}
 use Rattle.lr_depot.specs.declared.call.DepotNoted.TheVariants as noted
 use Rattle.lr_depot.specs.declared.call.DepotReply.{DepotReply}
-use Rattle.lr_depot.specs.declared.call.DepotReply.TheVariants.{NoImage, Opened, NoLease, NoChunk, Fetched, Closed, NoRoot, Taken, Doubt, Full, Began, NoSession, Kept, Nonce, Missing, Made, Abandoned, RootsEnd, Rotated, Reaped, Nothing, Fault, Spoiled, OutOfMemory}
+use Rattle.lr_depot.specs.declared.call.DepotReply.TheVariants.{NoLease, Closed, NoSession, Abandoned, Reaped, Nothing, OutOfMemory}
 use Rattle.lr_depot.specs.declared.call.DepotTold.{DepotTold}
 use Rattle.lr_depot.specs.declared.call.DepotTold.TheVariants as told
-use Rattle.lr_depot.specs.Machine.{LogEntry, DepotStep, state_after, after_entry, manifest_put, IsNoted, IsTold, Enters}
+use Rattle.lr_depot.specs.Machine.{LogEntry, DepotStep, state_after, after_entry, manifest_put, manifest_moved, move_doubted, deletion_doubted, found_there, IsNoted, IsTold, Enters}
 use Rattle.lr_depot.specs.Kernel.{held}
 use Rattle.lr_depot.specs.Sessions.{without_caller}
 use Rattle.lr_depot.proofs.Numbers.{listed, shorter}
@@ -108,17 +110,52 @@ module _ (s : State) (c : ℕ) where
           at None f = rw e (rw f (omega arith))
           at (Some x) f = rw e (rw f (omega arith))
 
-  job_more : (n b : ℕ) (j : Job) (m : Fields) → held (manifest_put s n (Some (record { caller = b; job = j })) m) ≤ held s + 1
+  job_more : (n b : ℕ) (j : Job) (m : ManifestFields) → held (manifest_put s n (Some (record { caller = b; job = j })) m) ≤ held s + 1
   job_more n b (Creates image r d) m = let less : map.len (map.remove s.desk.sessions n) ≤ map.len s.desk.sessions = no_more s.desk.sessions n in omega (arith, less)
   job_more n b (Moves image from to p) m = omega arith
 
-  manifest_more : (n : ℕ) (o : Option Session) (m : Fields) → held (manifest_put s n o m) ≤ held s + 1
+  manifest_more : (n : ℕ) (o : Option Session) (m : ManifestFields) → held (manifest_put s n o m) ≤ held s + 1
   manifest_more n None m = omega arith
   manifest_more n (Some z) m = job_more n z.caller z.job m
 
   making_more : (n : ℕ) (k : KeyKind) (m : _) → held (state_after s c (noted.PutManifest n m) (told.Fault k)) ≤ held s + 1
   making_more n (kind.Manifest r image) m = omega arith
   making_more n k m = omega arith
+
+  moved_more : (n b : ℕ) (j : Job) → held (manifest_moved s n (Some (record { caller = b; job = j }))) ≤ held s + 1
+  moved_more n b (Creates image r d) = omega arith
+  moved_more n b (Moves image from to p) = let less : map.len (map.remove s.desk.sessions n) ≤ map.len s.desk.sessions = no_more s.desk.sessions n in omega (arith, less)
+
+  move_more : (n : ℕ) (o : Option Session) → held (manifest_moved s n o) ≤ held s + 1
+  move_more n None = omega arith
+  move_more n (Some z) = moved_more n z.caller z.job
+
+  doubted_more : (n b : ℕ) (j : Job) → held (move_doubted s n (Some (record { caller = b; job = j }))) ≤ held s + 1
+  doubted_more n b (Creates image r d) = omega arith
+  doubted_more n b (Moves image from to p) = omega arith
+
+  unmoved_more : (n : ℕ) (o : Option Session) → held (move_doubted s n o) ≤ held s + 1
+  unmoved_more n None = omega arith
+  unmoved_more n (Some z) = doubted_more n z.caller z.job
+
+  sweep_more : (k : KeyKind) (o : Option Held) → held (deletion_doubted s k o) ≤ held s + 1
+  sweep_more k None = omega arith
+  sweep_more k (Some x) = omega arith
+
+  ended_more : (o : Option ℕ) → map.len (ended s.desk.sessions o) ≤ map.len s.desk.sessions
+  ended_more None = omega arith
+  ended_more (Some n) = no_more s.desk.sessions n
+
+  there_more : (k : KeyKind) (x : Held) → held (settled_there s k x) ≤ held s + 1
+  there_more (kind.Manifest r image) (manifest m) =
+      let less : map.len (ended s.desk.sessions (map.get s.desk.makers (kind.Manifest r image))) ≤ map.len s.desk.sessions = ended_more (map.get s.desk.makers (kind.Manifest r image)) in
+      omega (arith, less)
+  there_more (kind.Manifest r image) x = omega arith
+  there_more k x = omega arith
+
+  found_more : (k : KeyKind) (o : Option Held) → held (found_there s k o) ≤ held s + 1
+  found_more k None = omega arith
+  found_more k (Some x) = there_more k x
 
   -- No entry adds more than one.
   pub held_more : (n : DepotNoted) (t : DepotTold) → held (state_after s c n t) ≤ held s + 1
@@ -137,18 +174,27 @@ module _ (s : State) (c : ℕ) where
   held_more (noted.Abandon n) told.Abandoned = let less : map.len (map.remove s.desk.sessions n) ≤ map.len s.desk.sessions = no_more s.desk.sessions n in omega (arith, less)
   held_more (noted.Rotate bytes) (told.Rotated r) = omega arith
   held_more (noted.Rotate bytes) (told.Fault k) = omega arith
+  held_more (noted.BeginMigrate image) (told.Moving session from to m) =
+      let more : map.len (map.insert s.desk.sessions s.desk.next_session (record { caller = c; job = Moves image from to (arc_value m) })) ≤ map.len s.desk.sessions + 1 =
+      one_more s.desk.sessions s.desk.next_session (record { caller = c; job = Moves image from to (arc_value m) }) in
+      omega (arith, more)
+  held_more (noted.FinishMigrate n) (told.Moved from to) = move_more n (map.get s.desk.sessions n)
+  held_more (noted.FinishMigrate n) (told.Fault k) = unmoved_more n (map.get s.desk.sessions n)
+  held_more (noted.Withdraw image) told.Withdrawn = omega arith
+  held_more (noted.Withdraw image) (told.Fault k) = omega arith
+  held_more (noted.Expire r) told.Expired = omega arith
+  held_more (noted.Expire r) (told.Fault k) = omega arith
+  held_more (noted.Delete r) told.Deleted = omega arith
+  held_more (noted.Delete r) (told.Fault k) = omega arith
+  held_more (noted.Sweep r) (told.Removed k) = omega arith
+  held_more (noted.Sweep r) (told.Fault k) = sweep_more k (map.get s.known.view k)
+  held_more (noted.Settle k) told.There = found_more k (map.get s.known.doubts k)
+  held_more (noted.Settle k) told.Absent = omega arith
   held_more noted.Reap told.Reaped = let less : map.len (without_caller c s.desk.sessions) ≤ map.len s.desk.sessions = others_fewer c s.desk.sessions in omega (arith, less)
   held_more n t = omega arith
 
 pub places_more : (s : State) (e : LogEntry) → held (after_entry s e) ≤ held s + 1
 places_more s e = held_more s e.caller e.call e.reply
-
--- what the log keeps of such a reply tells that leases or sessions ended
-abbrev pub IsEnd : DepotTold → Type 0
-IsEnd told.Closed = Unit {0}
-IsEnd told.Abandoned = Unit {0}
-IsEnd told.Reaped = Unit {0}
-IsEnd t = ⊥
 
 some_of : {X : Type 0} (o : Option X) → IsSome o → (x : X) × (o ≡ Some x)
 some_of {X = X} None some = absurd (no_some {X = X} None refl some)
@@ -157,7 +203,7 @@ some_of (Some x) some = (x, refl)
 module _ (s : State) (c : ℕ) where
   pub close_one : (lease : ℕ) → IsSome (map.get s.desk.leases lease) → held (state_after s c (noted.Close lease) told.Closed) + 1 ≤ held s
   close_one lease out =
-      let is : (l : List ℕ × Fields) × (map.get s.desk.leases lease ≡ Some l) = some_of (map.get s.desk.leases lease) out in
+      let is : (l : List ℕ × ManifestFields) × (map.get s.desk.leases lease ≡ Some l) = some_of (map.get s.desk.leases lease) out in
       let less : map.len (map.remove s.desk.leases lease) < map.len s.desk.leases = shorter s.desk.leases lease is.0 is.1 in
       omega (arith, less)
 
@@ -199,54 +245,19 @@ module _ (s : State) (c : ℕ) where
   reap_less Nothing t step tells = absurd tells
   reap_less reply t step tells = absurd step
 
-  other_end : (t u : DepotTold) → t ≡ u → IsEnd t → IsEnd u
-  other_end t u e q = subst IsEnd e q
+  -- the caller's call ends something that is out
+  abbrev pub EndsOwn : DepotCall → Type 0
+  EndsOwn (Close lease) = IsSome (map.get s.desk.leases lease)
+  EndsOwn (Abandon n) = (j : Job) × Holds s n c j
+  EndsOwn Reap = ⊤
+  EndsOwn call = ⊥
 
-  opened_end : (lease : ℕ) (m : _) (t : DepotTold) → IsTold (Opened lease m) t → IsEnd t → ⊥
-  opened_end lease m (told.Opened other p) tells q = q
-  opened_end lease m t tells q = absurd tells
+  ends_less : (call : DepotCall) (reply : DepotReply) (n : DepotNoted) (t : DepotTold) → EndsOwn call → DepotStep s c call reply → IsNoted call n → IsTold reply t → IsLess n t
+  ends_less (Close lease) reply n t own step kept tells = as_less n (noted.Close lease) t t kept refl (close_less lease reply t own step tells)
+  ends_less (Abandon i) reply n t own step kept tells = as_less n (noted.Abandon i) t t kept refl (abandon_less i own.0 reply t own.1 step tells)
+  ends_less Reap reply n t own step kept tells = as_less n noted.Reap t t kept refl (reap_less reply t step tells)
+  ends_less call reply n t own step kept tells = absurd own
 
-  fetched_end : (chunk : _) (t : DepotTold) → IsTold (Fetched chunk) t → IsEnd t → ⊥
-  fetched_end chunk (told.Fetched name) tells q = q
-  fetched_end chunk t tells q = absurd tells
-
-  ends_less : (call : DepotCall) (reply : DepotReply) (n : DepotNoted) (t : DepotTold) → DepotStep s c call reply → IsNoted call n → IsTold reply t → IsEnd t → IsLess n t
-  ends_less (Close lease) Closed n t step kept tells q = as_less n (noted.Close lease) t told.Closed kept tells (close_one lease step)
-  ends_less (Abandon i) Abandoned n t step kept tells q = as_less n (noted.Abandon i) t told.Abandoned kept tells (abandon_one i step.0 step.1)
-  ends_less Reap Reaped n t step kept tells q = as_less n noted.Reap t told.Reaped kept tells (reap_some step.0 step.1 step.2 step.3)
-  ends_less call NoImage n t step kept tells q = absurd (other_end t told.NoImage tells q)
-  ends_less call (Opened lease m) n t step kept tells q = absurd (opened_end lease m t tells q)
-  ends_less call NoLease n t step kept tells q = absurd (other_end t told.NoLease tells q)
-  ends_less call NoChunk n t step kept tells q = absurd (other_end t told.NoChunk tells q)
-  ends_less call (Fetched chunk) n t step kept tells q = absurd (fetched_end chunk t tells q)
-  ends_less call NoRoot n t step kept tells q = absurd (other_end t told.NoRoot tells q)
-  ends_less call Taken n t step kept tells q = absurd (other_end t told.Taken tells q)
-  ends_less call (Doubt k) n t step kept tells q = absurd (other_end t (told.Doubt k) tells q)
-  ends_less call Full n t step kept tells q = absurd (other_end t told.Full tells q)
-  ends_less call (Began session root bytes number) n t step kept tells q = absurd (other_end t (told.Began session root bytes number) tells q)
-  ends_less call NoSession n t step kept tells q = absurd (other_end t told.NoSession tells q)
-  ends_less call Kept n t step kept tells q = absurd (other_end t told.Kept tells q)
-  ends_less call Nonce n t step kept tells q = absurd (other_end t told.Nonce tells q)
-  ends_less call (Missing i) n t step kept tells q = absurd (other_end t (told.Missing i) tells q)
-  ends_less call (Made r) n t step kept tells q = absurd (other_end t (told.Made r) tells q)
-  ends_less call RootsEnd n t step kept tells q = absurd (other_end t told.RootsEnd tells q)
-  ends_less call (Rotated r) n t step kept tells q = absurd (other_end t (told.Rotated r) tells q)
-  ends_less call (Fault k) n t step kept tells q = absurd (other_end t (told.Fault k) tells q)
-  ends_less call (Spoiled k) n t step kept tells q = absurd (other_end t (told.Spoiled k) tells q)
-  ends_less call Nothing n t step kept tells q = absurd tells
-  ends_less call OutOfMemory n t step kept tells q = absurd tells
-  ends_less call reply n t step kept tells q = absurd step
-
-module _ (s : State) (e : LogEntry) (call : DepotCall) (reply : DepotReply) (step : DepotStep s e.caller call reply) (enters : Enters call reply e) where
-  -- An entry that tells of an end takes at least one out.
-  pub places_less : IsEnd e.reply → held (after_entry s e) + 1 ≤ held s
-  places_less q = ends_less s e.caller call reply e.call e.reply step enters.noted enters.told q
-
-  pub closed_less : e.reply ≡ told.Closed → held (after_entry s e) + 1 ≤ held s
-  closed_less is = places_less (subst IsEnd (sym is) tt)
-
-  pub abandoned_less : e.reply ≡ told.Abandoned → held (after_entry s e) + 1 ≤ held s
-  abandoned_less is = places_less (subst IsEnd (sym is) tt)
-
-  pub reaped_less : e.reply ≡ told.Reaped → held (after_entry s e) + 1 ≤ held s
-  reaped_less is = places_less (subst IsEnd (sym is) tt)
+-- A call that ends something leaves less out with each of its entries.
+pub ending : (s : State) (e : LogEntry) (call : DepotCall) (reply : DepotReply) → EndsOwn s e.caller call → DepotStep s e.caller call reply → Enters call reply e → held (after_entry s e) + 1 ≤ held s
+ending s e call reply own step enters = ends_less s e.caller call reply e.call e.reply own step enters.noted enters.told

@@ -22,7 +22,7 @@ ok_fact (Ok x) P e h = h
 ok_fact (Err x) P e h = cc
 
 -- a key that was put in and taken out
-taken_out : (d : View) (k : KeyKind) (x : Held) → fin.remove (fin.insert d k x) k ≡ fin.remove d k
+pub taken_out : (d : View) (k : KeyKind) (x : Held) → fin.remove (fin.insert d k x) k ≡ fin.remove d k
 taken_out d k x = same_map kind_total kind_exact _ _ (λ q. get-remove kind_total (fin.insert d k x) k q ∙ at q (cases_Bool (eq_by_cmp kind_cmp q k)) ∙ sym (get-remove kind_total d k q))
   where
     at : (q : KeyKind) → (eq_by_cmp kind_cmp q k ≡ true) ⊎ (eq_by_cmp kind_cmp q k ≡ false) → cond (eq_by_cmp kind_cmp q k) None (fin.get (fin.insert d k x) q) ≡ cond (eq_by_cmp kind_cmp q k) None (fin.get d q)

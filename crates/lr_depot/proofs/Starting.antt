@@ -1,7 +1,7 @@
 -- A depot as it starts.
 use Rattle.std.proofs.Common.{◌≡◌, ◌≤◌, ◌+◌, ◌^◌, ℕ, [], Option, refl, sym, subst, ◌∙◌, inl, inr, arith, vec_len}
 use mathlib.Core.Logic.{◌⊎◌}
-use Rattle.lr_manifest.specs.Manifest.{Fields, IsManifest}
+use Rattle.lr_manifest.specs.Manifest.{ManifestFields, IsManifest}
 use Rattle.lr_origin.specs.declared.key.KeyKind.{KeyKind}
 use Rattle.lr_origin.specs.declared.key.KeyKind.TheVariants.{Root, Expired, Deleted, Chunk, Manifest, Withdrawn}
 use Rattle.lr_roots.specs.View.{View, manifest}
@@ -19,7 +19,7 @@ use Rattle.lr_depot.specs.Depot.{IsStart, IsWhole, first_state, state}
 
 module _ (v : View) (sound : IsSound v) where
   -- a manifest of a sound view has a creation number within the limit
-  number_within : (k : KeyKind) (m : Fields) → IsManifestAt v k m → number_of m ≤ 9223372036854775807
+  number_within : (k : KeyKind) (m : ManifestFields) → IsManifestAt v k m → number_of m ≤ 9223372036854775807
   number_within (Manifest r image) m at = let n : IsManifest m × IsNumbered r m = sound.fits (Manifest r image) (manifest m) at in n.1.most
   number_within (Root r) m at = absurd at
   number_within (Expired r) m at = absurd at

@@ -14,17 +14,17 @@ use Rattle.lr_origin.specs.declared.key.KeyKind.TheVariants.{Chunk}
 use Rattle.lr_origin.proofs.TextOrder.{order_is_text}
 use Rattle.lr_roots.specs.View.{View, Held, Lacks}
 use Rattle.lr_opening.specs.Store.{Mirrors, IsSame, IsBody, HasChunks}
-use Rattle.lr_rules.specs.Known.{Known, Settles, accepted, doubting}
+use Rattle.lr_rules.specs.Known.{Known, Settles, Agrees, accepted, doubting, removed, dismissed}
 use Rattle.lr_rules.specs.State.{State}
 use Rattle.lr_rules.proofs.Doubts.{same_some}
-use Rattle.lr_rules.proofs.Keys.{no_some, cases_key, at_key, at_other, gone_key, gone_other}
+use Rattle.lr_rules.proofs.Keys.{no_some, cases_key, at_key, at_other, gone_key, gone_other, was_there}
 use Rattle.lr_rules.proofs.Maps as maps
 use Rattle.lr_rules.proofs.Outcomes.{not_both, settles_but}
 use Rattle.lr_rules.proofs.Sound.{split}
 use Rattle.lr_depot.specs.declared.put.PutEnd.{PutEnd}
 use Rattle.lr_depot.specs.declared.put.PutEnd.TheVariants.{Kept as Done, Fault as Failed, Spoiled as Bad, OutOfMemory as Unmade}
 use Rattle.lr_depot.specs.Put.{PutsKey}
-use Rattle.lr_depot.specs.Store.{Puts, Follows}
+use Rattle.lr_depot.specs.Store.{Puts, MayRemove, Follows}
 
 exact : IsAntisymmetric key_cmp
 exact = slice_cmp-IsAntisymmetric nat_cmp-IsAntisymmetric
@@ -140,3 +140,101 @@ module _ (k : KeyKind) (body : List ℕ) (of : IsKind k) (named : (r : ℕ) (nam
   put_chunks s Failed m n (inr p) h = subst HasChunks (sym (same_some n _ p.1)) (chunks_put m h)
   put_chunks s Bad m n p h = subst HasChunks (sym (same_some n m p.1)) h
   put_chunks s Unmade m n p h = subst HasChunks (sym (same_some n m p)) h
+
+object_gone : (m : Objects) (t : List ℕ) → map.get (map.remove m t) t ≡ None
+object_gone = maps.gone key_cmp nat_list_cmp_total exact
+
+object_left : (m : Objects) (t q : List ℕ) → q ≢ t → map.get (map.remove m t) q ≡ map.get m q
+object_left = maps.gone_beside key_cmp nat_list_cmp_total exact
+
+-- without a key and its object
+mirrors_removed : (m : Objects) (v : View) (k : KeyKind) → IsKind k → Mirrors m v → Mirrors (map.remove m (key_text k)) (map.remove v k)
+mirrors_removed m v k of h = record {
+  each = λ q i. each q i (cases_key q k);
+  kinds = λ q has. h.kinds q (was_there v k q has);
+  only = λ q some. only q some (maps.cases key_cmp nat_list_cmp_total exact q (key_text k));
+}
+  where
+    each : (q : KeyKind) → IsKind q → (q ≡ k) ⊎ (q ≢ k) → IsSame q (map.get (map.remove m (key_text k)) (key_text q)) (map.get (map.remove v k) q)
+    each q i (inl e) =
+        subst (λ q. IsSame q (map.get (map.remove m (key_text k)) (key_text q)) (map.get (map.remove v k) q)) (sym e)
+        (subst (λ o. IsSame k o (map.get (map.remove v k) k)) (sym (object_gone m (key_text k))) (subst (λ o. IsSame k None o) (sym (gone_key v k)) tt))
+    each q i (inr ne) =
+        subst (λ o. IsSame q o (map.get (map.remove v k) q)) (sym (object_left m (key_text k) (key_text q) (λ e. ne (one_text q k i of e))))
+        (subst (λ o. IsSame q (map.get m (key_text q)) o) (sym (gone_other v k q ne)) (h.each q i))
+
+    only : (q : List ℕ) → IsSome (map.get (map.remove m (key_text k)) q) → (q ≡ key_text k) ⊎ (q ≢ key_text k) → (j : KeyKind) × IsKind j × (q ≡ key_text j)
+    only q some (inl e) = (k, of, e)
+    only q some (inr ne) = h.only q (subst IsSome (object_left m (key_text k) q ne) some)
+
+-- A deletion of a key of the view.
+module _ (s : Known) (agrees : Agrees s) (k : KeyKind) (x : Held) (of : IsKind k) (here : map.get s.view k ≡ Some x) where
+  -- what may be there of the key
+  left_ways : (v : View) → Settles s v → (map.get v k ≡ None) ⊎ (map.get v k ≡ Some x)
+  left_ways v t = by (map.get s.doubts k) refl
+    where
+      kept : (y : Held) → map.get s.doubts k ≡ Some y → y ≡ x
+      kept y e = elim (agrees k y e) [ inl away ↦ absurd (not_both _ x away here) | inr there ↦ same_some y x (sym there.0 ∙ here) ]
+
+      by : (o : Option Held) → map.get s.doubts k ≡ o → (map.get v k ≡ None) ⊎ (map.get v k ≡ Some x)
+      by None e = inr (t.known k e ∙ here)
+      by (Some y) e = elim (t.doubted k y e) [ inl n ↦ inl n | inr h ↦ inr (h ∙ ap Some (kept y e)) ]
+
+  settled_gone : (v : View) → Settles s v → Settles (removed s k) (map.remove v k)
+  settled_gone v t =
+      settles_but (removed s k) s k v (map.remove v k) (λ q ne. sym (gone_other s.doubts k q ne)) (λ q ne. sym (gone_other s.view k q ne)) (gone_other v k)
+      (λ none. gone_key v k ∙ sym (gone_key s.view k)) (λ y some. absurd (not_both _ y (gone_key s.doubts k) some)) t
+
+  doubt_gone : (v : View) → Settles s v → Settles (doubting s k x) (map.remove v k)
+  doubt_gone v t =
+      settles_but (doubting s k x) s k v (map.remove v k) (λ q ne. sym (at_other s.doubts k x q ne)) (λ q ne. refl) (gone_other v k)
+      (λ none. absurd (not_both _ x none (at_key s.doubts k x))) (λ y some. inl (gone_key v k)) t
+
+  pub removed_follows : (m o : Objects) → Some o ≡ Some (map.remove m (key_text k)) → Follows s m → Follows (removed s k) o
+  removed_follows m o e h = subst (Follows (removed s k)) (sym (same_some o _ e)) (map.remove h.0 k, settled_gone h.0 h.1, mirrors_removed m h.0 k of h.2)
+
+  pub removing_follows : (m o : Objects) → MayRemove k m (Some o) → Follows s m → Follows (doubting s k x) o
+  removing_follows m o (inl e) h = same_follows (doubting s k x) m o e (h.0, doubt_away s k x h.0 h.1 (left_ways h.0 h.1), h.2)
+  removing_follows m o (inr e) h = subst (Follows (doubting s k x)) (sym (same_some o _ e)) (map.remove h.0 k, doubt_gone h.0 h.1, mirrors_removed m h.0 k of h.2)
+
+-- a deletion leaves chunks under their names
+gone_chunks : (m : Objects) (t : List ℕ) → HasChunks m → HasChunks (map.remove m t)
+gone_chunks m t h r name b i e = by (maps.cases key_cmp nat_list_cmp_total exact (key_text (Chunk r name)) t)
+  where
+    by : (key_text (Chunk r name) ≡ t) ⊎ (key_text (Chunk r name) ≢ t) → (length b ≡ 524288) × (sha256 b ≡ name)
+    by (inl same) = absurd (not_both _ b (ap (map.get (map.remove m t)) same ∙ object_gone m t) e)
+    by (inr ne) = h r name b i (sym (object_left m t (key_text (Chunk r name)) ne) ∙ e)
+
+pub removed_chunks : (m o : Objects) (t : List ℕ) → Some o ≡ Some (map.remove m t) → HasChunks m → HasChunks o
+removed_chunks m o t e h = subst HasChunks (sym (same_some o _ e)) (gone_chunks m t h)
+
+pub removing_chunks : (k : KeyKind) (m o : Objects) → MayRemove k m (Some o) → HasChunks m → HasChunks o
+removing_chunks k m o (inl e) h = subst HasChunks (sym (same_some o m e)) h
+removing_chunks k m o (inr e) h = removed_chunks m o (key_text k) e h
+
+-- A look at a key whose put is in doubt.
+module _ (s : Known) (k : KeyKind) (x : Held) (m : Objects) (of : IsKind k) (here : map.get s.doubts k ≡ Some x) (absent : Lacks s.view k) (h : Follows s m) where
+  -- an object that is there is what was put
+  pub look_there : (body : List ℕ) → map.get m (key_text k) ≡ Some body → map.get h.0 k ≡ Some x
+  look_there body found = elim (h.1.doubted k x here) [
+    | inl none ↦ absurd (no_some _ none (object_seen k _ _ (h.2.each k of) (subst IsSome (sym found) refl)))
+    | inr there ↦ there
+  ]
+
+  pub look_body : (body : List ℕ) → map.get m (key_text k) ≡ Some body → IsBody k x body
+  look_body body found = subst (λ o. IsSame k (Some body) o) (look_there body found) (subst (λ o. IsSame k o (map.get h.0 k)) found (h.2.each k of))
+
+  pub found_follows : (body : List ℕ) → map.get m (key_text k) ≡ Some body → Follows (accepted s k x) m
+  found_follows body found = (h.0, settled_there s k x h.0 h.1 (look_there body found), h.2)
+
+  pub missed_follows : map.get m (key_text k) ≡ None → Follows (dismissed s k) m
+  missed_follows none = (
+    h.0,
+    settles_but (dismissed s k) s k h.0 h.0 (λ q ne. sym (gone_other s.doubts k q ne)) (λ q ne. refl) (λ q ne. refl)
+        (λ sure. away (map.get h.0 k) refl ∙ sym absent) (λ y some. absurd (not_both _ y (gone_key s.doubts k) some)) h.1,
+    h.2,
+  )
+    where
+      away : (o : Option Held) → map.get h.0 k ≡ o → map.get h.0 k ≡ None
+      away None e = e
+      away (Some y) e = absurd (subst (λ o. IsSame k None o) e (subst (λ o. IsSame k o (map.get h.0 k)) none (h.2.each k of)))

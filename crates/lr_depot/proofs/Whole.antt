@@ -21,6 +21,7 @@ module _ (kernel : Kernel) (s : State) (h : IsOf kernel s) where
   pub ready_of : IsSafe s → HasRoom s → IsReady kernel
   ready_of safe room = record {
     makers = s.desk.makers;
+    own = h.makers;
     aside = h.aside;
     safe = subst IsSafe (sym of_state) safe;
     room = subst HasRoom (sym of_state) room;

@@ -8,6 +8,12 @@ use Rattle.lr_roots.specs.Names.{IsNamed, AreFewer, IsGreatestNumber}
 use Rattle.lr_roots.specs.Catalog.{Seen as Catalog}
 use Rattle.lr_opening.specs.Listing.{HasFewer}
 use Rattle.lr_opening.specs.Store.{Mirrors, HasChunks, IsSoundStore}
+use Rattle.lr_roots.specs.View.{View}
+use Rattle.lr_roots.specs.Roots.{IsHomed}
+use Rattle.lr_roots.specs.Sound.{IsSound}
+use Rattle.lr_rules.specs.Known.{Settles}
+use Rattle.lr_depot.specs.Doubts.{puts_in_doubt}
+use Rattle.lr_depot.specs.Owed.{IsOwed}
 use Rattle.lr_rules.specs.State.{State}
 use Rattle.lr_rules.specs.Start.{started, MayStart}
 use Rattle.lr_rules.specs.Parts.{HasParts}
@@ -18,7 +24,8 @@ use Rattle.lr_depot.specs.declared.call.DepotTold.{DepotTold}
 use Rattle.lr_depot.specs.Begun.{Start}
 use Rattle.lr_depot.specs.declared.depot.Body.{Body}
 use Rattle.lr_depot.specs.Machine.{LogEntry, DepotStep, Enters, IsShared, IsSharedEntry, after_entry, run, is_logged}
-use Rattle.lr_depot.specs.Store.{IsRun, LeadsTo, Covers}
+use Rattle.lr_spec.specs.Rose.{Rose}
+use Rattle.lr_depot.specs.Store.{IsRun, LeadsTo, Covers, StoreStep, IsFault, IsUnasked}
 use Rattle.lr_depot.specs.Kernel.{IsOf, held, places}
 use Rattle.lr_depot.specs.Left.{Left}
 
@@ -71,12 +78,28 @@ pub record Did {O : Type 0} (objects : O → Option Objects) (faults : O → ℕ
   pub answers : DepotStep (state start old.log.items) c call reply
   pub logged : MatchBool (is_logged reply) ((e : LogEntry) × (new.log.items ≡ old.log.items ++ e ∷ []) × (e.caller ≡ c) × Enters call reply e × (IsShared call → IsSharedEntry e.call)) (new.log.items ≡ old.log.items)
   pub unlogged : OnFalse (is_logged reply) (Told (objects old.origin) (λ m. objects new.origin ≡ Some m))
+  -- what it did to the objects
+  pub stored : Told (objects old.origin) (λ m. StoreStep (state start old.log.items) c call reply m (objects new.origin))
+  pub never_falls : faults old.origin ≤ faults new.origin
+  pub cause : IsFault reply → Rose (faults old.origin) (faults new.origin)
+  pub unasked : IsUnasked (state start old.log.items) c call reply → new.origin ≡ old.origin
   pub whole : IsWhole objects faults start new
 
 -- An unlogged reply leaves the log and the objects.
 abbrev pub IsUnchanged : {O : Type 0} → (O → Option Objects) → Seen O → Seen O → Type 0
 IsUnchanged objects old new =
     (new.start ≡ old.start) × (new.log ≡ old.log) × Told (objects old.origin) (λ m. objects new.origin ≡ Some m)
+
+-- The log leads from objects of which the view at the start is to these objects.
+pub record LedTo (start : Start) (m : Objects) (log : List LogEntry) (n : Objects) : Type 0 where
+  pub begun : IsStart start
+  pub mirrors : Mirrors m start.view
+  pub leads : LeadsTo (first_state start) m log n
+
+-- The store's objects are one way out of the doubts after the log. Their view is sound, and all that is owed is homed there.
+abbrev pub KeepsStore : Start → List LogEntry → Objects → Type 0
+KeepsStore start log n =
+    (v : View) × Settles (state start log).known v × Mirrors n v × IsSound v × ((image : List ℕ) → IsOwed (first_state start) log image → IsHomed v image)
 
 -- A depot as it starts over a store: its log is empty, its view is the store's, sound, and its first creation number is
 -- above every one found.
@@ -88,13 +111,13 @@ pub record IsStarted {O : Type 0} (objects : O → Option Objects) (faults : O �
   pub few : Told (objects origin) (λ m. HasFewer m (2 ^ 32))
   pub above : IsGreatestNumber d.start.view (d.start.number - 1)
 
--- A depot as it ends: the log, the doubts and the view are those of its state, the log leads from the objects at the
+-- A depot as it ends: the log, the puts in doubt and the view are those of its state, the log leads from the objects at the
 -- start to those of now, and the faults that it tells of are at most the rise of the store's count. The promises hold of
 -- the state, and a store that was sound is sound.
 pub record IsEnded {O : Type 0} (objects : O → Option Objects) (faults : O → ℕ) (d : Seen O) (origin : O) (left : Left) (catalog : Catalog) : Type 0 where
   pub store : origin ≡ d.origin
   pub log : left.log ≡ d.log
-  pub doubts : left.doubts ≡ map.keys (state d.start d.log).known.doubts
+  pub doubts : left.doubts ≡ map.keys (puts_in_doubt (state d.start d.log).known)
   pub view : catalog.view ≡ (state d.start d.log).known.view
   pub aside : catalog.aside ≡ None
   pub start : IsStart d.start
@@ -102,4 +125,6 @@ pub record IsEnded {O : Type 0} (objects : O → Option Objects) (faults : O →
   pub leads : Told d.start.objects (λ m. (n : Objects) × (objects d.origin ≡ Some n) × LeadsTo (first_state d.start) m d.log n)
   pub counted : Covers d.start.faults d.log (faults d.origin)
   pub kept : HasParts (state d.start d.log)
+  -- the store's keys differ from the view's only at keys in doubt, its view is sound, and what is owed is homed there too
+  pub stored : Told d.start.objects (λ m. (n : Objects) × (objects d.origin ≡ Some n) × KeepsStore d.start d.log n)
   pub sound : Told d.start.objects (λ m. HasChunks m → (n : Objects) × (objects d.origin ≡ Some n) × IsSoundStore n)

@@ -1,10 +1,13 @@
+pub mod Jobs
 pub mod Sessions
 pub mod Doubts
 pub mod Put
+pub mod Deletion
 pub mod Machine
 pub mod Store
 pub mod Kernel
 pub mod Owed
+pub mod Lasting
 pub mod Drawn
 pub mod Others
 pub mod Left

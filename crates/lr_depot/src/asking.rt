@@ -7,37 +7,37 @@ ghost use Rattle.lr_spec.specs.Rose.{Rose};
 ghost use Rattle.lr_spec.specs.Told.{Told};
 ghost use Rattle.lr_manifest.specs.declared.name.Name.{Name as PlainName};
 ghost use Rattle.lr_origin.specs.declared.key.KeyKind.TheVariants as kind;
-ghost use Rattle.lr_manifest.specs.Manifest.{Fields};
+ghost use Rattle.lr_manifest.specs.Manifest.{ManifestFields};
 ghost use Rattle.lr_roots.specs.Roots.{IsHome, IsHomed};
 ghost use Rattle.lr_roots.specs.Sound.{IsSound};
 ghost use Rattle.lr_depot.specs.declared.call.DepotCall.TheVariants as call;
 ghost use Rattle.lr_depot.specs.declared.call.DepotNoted.TheVariants as noted;
-ghost use Rattle.lr_depot.specs.Store.{StoreStep, IsFault};
-ghost use Rattle.lr_depot.specs.Kernel.{Makers, state_of, IsReady, IsPlace, Serves};
+ghost use Rattle.lr_depot.specs.Store.{StoreStep, IsFault, IsUnasked};
+ghost use Rattle.lr_depot.specs.Kernel.{Makers, state_of, IsReady, IsPlace, IsServed};
 
 use crate::call::{DepotReply, DepotTold};
 use crate::doubts::is_in_doubt;
-use crate::kernel::{Answer, Kernel, creation_of, logged};
+use crate::kernel::{Answer, Kernel, logged};
 use crate::put::{PutEnd, put_key};
+use crate::sessions::{creation_of, target_of};
 use lr_manifest::{Chunk, Manifest, Name};
-use lr_origin::{ImageName, Key, KeyKind, Origin, OriginError};
+use lr_origin::{ImageName, Key, KeyKind, Origin, OriginError, ROOTS_MAX};
 use lr_roots::{Catalog, Kept};
-use lr_rules::ROOTS_MAX;
 use std::alloc::Global;
 use std::sync::Arc;
 
-/// Where the chunk of a lease is got, and its name.
+/// Where a chunk is got, and its name.
 #[derive(Clone, Copy)]
 pub(crate) struct Place {
     pub(crate) key: Key,
     pub(crate) name: Name,
 }
 
-/// Why a lease has no such chunk.
+/// Why there is no such chunk.
 #[derive(Clone, Copy, Debug, PartialEq, Eq)]
 pub(crate) enum Unplaced {
-    /// There is no such lease.
-    NoLease,
+    /// There is no such lease or session.
+    NotOut,
     /// The index is past the names.
     NoChunk,
 }
@@ -55,7 +55,7 @@ fn home_key(catalog: &Catalog, image: &ImageName, name: &Name) -> Key
 }
 
 // The name at an index of a manifest.
-fn name_at(manifest: &Manifest, index: u32) -> Option<Name>
+pub(crate) fn name_at(manifest: &Manifest, index: u32) -> Option<Name>
     ensures { result ≡ slice_get manifest.now.names index }
 {
     manifest.names().get(index as usize).copied()
@@ -65,11 +65,11 @@ fn name_at(manifest: &Manifest, index: u32) -> Option<Name>
 fn place_of(kernel: &Kernel, lease: u64, index: u32) -> Result<Place, Unplaced>
     requires ready { IsReady kernel.now }
     ensures place { IfOk result (λ p. IsPlace kernel.now lease index p) }
-    ensures none { IsErrOf result Unplaced.NoLease → map.get kernel.now.leases lease ≡ None }
-    ensures past { IsErrOf result Unplaced.NoChunk → (image : List ℕ) × (m : Fields) × (map.get kernel.now.leases lease ≡ Some (image, m)) × (slice_get m.names index ≡ None) }
+    ensures none { IsErrOf result Unplaced.NotOut → map.get kernel.now.leases lease ≡ None }
+    ensures past { IsErrOf result Unplaced.NoChunk → (image : List ℕ) × (m : ManifestFields) × (map.get kernel.now.leases lease ≡ Some (image, m)) × (slice_get m.names index ≡ None) }
 {
     let Some(entry) = kernel.leases.get(lease) else {
-        return Err(Unplaced::NoLease);
+        return Err(Unplaced::NotOut);
     };
     let Some(name) = name_at(&entry.manifest, index) else {
         return Err(Unplaced::NoChunk);
@@ -88,14 +88,15 @@ pub(crate) fn fetch<O: Origin>(
     index: u32,
 ) -> Answer
     requires ready { IsReady kernel.now }
-    ensures served { Serves kernel.now kernel.now caller (call.Fetch lease index) (noted.Fetch lease index) result }
+    ensures served { IsServed kernel.now kernel.now caller (call.Fetch lease index) (noted.Fetch lease index) result }
     ensures store { (makers : Makers) → Told (O.objects origin.old) (λ m. StoreStep (state_of kernel.now makers) caller (call.Fetch lease index) result.reply m (O.objects origin.new)) }
     ensures never_falls { O.faults origin.old ≤ O.faults origin.new }
     ensures cause { IsFault result.reply → Rose (O.faults origin.old) (O.faults origin.new) }
+    ensures unasked { (makers : Makers) → IsUnasked (state_of kernel.now makers) caller (call.Fetch lease index) result.reply → origin.new ≡ origin.old }
 {
     let Place { key, name } = match place_of(kernel, lease, index) {
         Ok(place) => place,
-        Err(Unplaced::NoLease) => return logged(DepotReply::NoLease, DepotTold::NoLease),
+        Err(Unplaced::NotOut) => return logged(DepotReply::NoLease, DepotTold::NoLease),
         Err(Unplaced::NoChunk) => return logged(DepotReply::NoChunk, DepotTold::NoChunk),
     };
     let body = match origin.get(alloc, key.as_bytes()) {
@@ -123,22 +124,20 @@ pub(crate) fn put_chunk<O: Origin>(
     chunk: Arc<Chunk>,
 ) -> Answer
     requires ready { IsReady kernel.old }
-    ensures served { (name : PlainName) → name.bytes ≡ sha256 (arc_value chunk) → Serves kernel.old kernel.new caller (call.PutChunk session chunk) (noted.PutChunk session name) result }
+    ensures served { (name : PlainName) → name.bytes ≡ sha256 (arc_value chunk) → IsServed kernel.old kernel.new caller (call.PutChunk session chunk) (noted.PutChunk session name) result }
     ensures store { (makers : Makers) → Told (O.objects origin.old) (λ m. StoreStep (state_of kernel.old makers) caller (call.PutChunk session chunk) result.reply m (O.objects origin.new)) }
     ensures never_falls { O.faults origin.old ≤ O.faults origin.new }
     ensures cause { IsFault result.reply → Rose (O.faults origin.old) (O.faults origin.new) }
+    ensures unasked { (makers : Makers) → IsUnasked (state_of kernel.old makers) caller (call.PutChunk session chunk) result.reply → origin.new ≡ origin.old }
 {
-    let Some(creation) = creation_of(&kernel.sessions, session, caller) else {
+    let Some(root) = target_of(&kernel.sessions, session, caller) else {
         return logged(DepotReply::NoSession, DepotTold::NoSession);
     };
     let body = chunk.bytes();
-    let key = Key::of(&KeyKind::Chunk(creation.root, chunk.name().bytes));
+    let key = Key::of(&KeyKind::Chunk(root, chunk.name().bytes));
     if kernel.catalog.has(&key) {
         return logged(DepotReply::Kept, DepotTold::Kept);
     }
-    let Ok(handle) = Arc::try_clone(&chunk) else {
-        return Answer::no_memory();
-    };
     let end = put_key(
         origin,
         &mut kernel.catalog,
@@ -146,7 +145,7 @@ pub(crate) fn put_chunk<O: Origin>(
         alloc,
         key,
         Kept::Empty,
-        Kept::Chunk(handle),
+        Kept::Empty,
         body,
     );
     match end {
@@ -167,10 +166,11 @@ pub(crate) fn put_manifest<O: Origin>(
     manifest: &Arc<Manifest>,
 ) -> Answer
     requires ready { IsReady kernel.old }
-    ensures served { Serves kernel.old kernel.new caller (call.PutManifest session manifest.now) (noted.PutManifest session manifest.now) result }
+    ensures served { IsServed kernel.old kernel.new caller (call.PutManifest session manifest.now) (noted.PutManifest session manifest.now) result }
     ensures store { (makers : Makers) → Told (O.objects origin.old) (λ m. StoreStep (state_of kernel.old makers) caller (call.PutManifest session manifest.now) result.reply m (O.objects origin.new)) }
     ensures never_falls { O.faults origin.old ≤ O.faults origin.new }
     ensures cause { IsFault result.reply → Rose (O.faults origin.old) (O.faults origin.new) }
+    ensures unasked { (makers : Makers) → IsUnasked (state_of kernel.old makers) caller (call.PutManifest session manifest.now) result.reply → origin.new ≡ origin.old }
 {
     let Some(creation) = creation_of(&kernel.sessions, session, caller) else {
         return logged(DepotReply::NoSession, DepotTold::NoSession);
@@ -191,6 +191,9 @@ pub(crate) fn put_manifest<O: Origin>(
     let (Ok(handle), Ok(doubt)) = (Arc::try_clone(manifest), Arc::try_clone(manifest)) else {
         return Answer::no_memory();
     };
+    if kernel.makers.insert(key, session).is_err() {
+        return Answer::no_memory();
+    }
     let end = put_key(
         origin,
         &mut kernel.catalog,
@@ -203,13 +206,20 @@ pub(crate) fn put_manifest<O: Origin>(
     );
     match end {
         PutEnd::Kept => {
+            kernel.makers.remove(&key);
             kernel.sessions.remove(session);
             let root = creation.root;
             logged(DepotReply::Made { root }, DepotTold::Made { root })
         }
         PutEnd::Fault => logged(DepotReply::Fault(key), DepotTold::Fault(key)),
-        PutEnd::Spoiled => logged(DepotReply::Spoiled(key), DepotTold::Spoiled(key)),
-        PutEnd::OutOfMemory => Answer::no_memory(),
+        PutEnd::Spoiled => {
+            kernel.makers.remove(&key);
+            logged(DepotReply::Spoiled(key), DepotTold::Spoiled(key))
+        }
+        PutEnd::OutOfMemory => {
+            kernel.makers.remove(&key);
+            Answer::no_memory()
+        }
     }
 }
 
@@ -230,10 +240,11 @@ pub(crate) fn rotate<O: Origin>(
     salt: [u8; 32],
 ) -> Answer
     requires ready { IsReady kernel.old }
-    ensures served { Serves kernel.old kernel.new caller (call.Rotate salt) (noted.Rotate salt) result }
+    ensures served { IsServed kernel.old kernel.new caller (call.Rotate salt) (noted.Rotate salt) result }
     ensures store { (makers : Makers) → Told (O.objects origin.old) (λ m. StoreStep (state_of kernel.old makers) caller (call.Rotate salt) result.reply m (O.objects origin.new)) }
     ensures never_falls { O.faults origin.old ≤ O.faults origin.new }
     ensures cause { IsFault result.reply → Rose (O.faults origin.old) (O.faults origin.new) }
+    ensures unasked { (makers : Makers) → IsUnasked (state_of kernel.old makers) caller (call.Rotate salt) result.reply → origin.new ≡ origin.old }
 {
     let last = kernel.catalog.roots();
     if last >= ROOTS_MAX {

@@ -41,6 +41,39 @@ pub enum DepotCall {
     Rotate {
         salt: [u8; 32],
     },
+    /// Begins to copy an image from its home to the active root.
+    BeginMigrate {
+        image: ImageName,
+    },
+    /// Gets a chunk of an image that is copied, by its index in the manifest, from the root that it is copied from.
+    CopyRead {
+        session: u64,
+        index: u32,
+    },
+    /// Puts the manifest of a copied image in the root that it is copied to, and ends the session.
+    FinishMigrate {
+        session: u64,
+    },
+    /// Withdraws an image: it can't be opened any more.
+    Withdraw {
+        image: ImageName,
+    },
+    /// Expires a retired root that is the home of no owed image.
+    Expire {
+        root: u32,
+    },
+    /// Deletes an expired root. Its chunks and manifests may be swept.
+    Delete {
+        root: u32,
+    },
+    /// Deletes the least chunk or manifest key of a deleted root.
+    Sweep {
+        root: u32,
+    },
+    /// Looks whether the object is there whose put is in doubt.
+    Settle {
+        key: Key,
+    },
     /// Ends all sessions of a caller that is gone.
     Reap,
 }
@@ -74,6 +107,31 @@ pub enum DepotNoted {
     },
     Rotate {
         salt: [u8; 32],
+    },
+    BeginMigrate {
+        image: ImageName,
+    },
+    CopyRead {
+        session: u64,
+        index: u32,
+    },
+    FinishMigrate {
+        session: u64,
+    },
+    Withdraw {
+        image: ImageName,
+    },
+    Expire {
+        root: u32,
+    },
+    Delete {
+        root: u32,
+    },
+    Sweep {
+        root: u32,
+    },
+    Settle {
+        key: Key,
     },
     Reap,
 }
@@ -131,6 +189,54 @@ pub enum DepotReply {
     Rotated {
         root: u32,
     },
+    /// The home of the image is the active root already.
+    NotRetiredHome {
+        home: u32,
+    },
+    /// The session, the root that the image is copied from, the root that it is copied to, and its manifest.
+    Moving {
+        session: u64,
+        from: u32,
+        to: u32,
+        manifest: Arc<Manifest>,
+    },
+    /// The chunk of the index.
+    Copied(Arc<Chunk>),
+    /// The home of the image isn't any more the root that it is copied from.
+    Overtaken {
+        home: u32,
+    },
+    /// The manifest is there, and the session ended.
+    Moved {
+        from: u32,
+        to: u32,
+    },
+    /// The image is withdrawn.
+    Withdrawn,
+    /// The root is unknown, active, expired or deleted.
+    NotRetired,
+    /// The first owed image, in byte order, whose home the root is.
+    Serves(ImageName),
+    /// The least session that puts into the root or copies from it.
+    Session(u64),
+    /// The root is expired.
+    Expired,
+    /// The root isn't expired, or it is deleted already.
+    NotExpired,
+    /// The root is deleted.
+    Deleted,
+    /// The root isn't deleted.
+    NotDeleted,
+    /// The chunk or manifest key that was deleted.
+    Removed(Key),
+    /// The root has no chunk and no manifest key.
+    Swept,
+    /// The put of the key isn't in doubt.
+    NoDoubt,
+    /// The object is there, and its put counts as acknowledged.
+    There,
+    /// The object isn't there.
+    Absent,
     /// All sessions of the caller ended.
     Reaped,
     /// The caller has no session. Not logged.
@@ -143,7 +249,7 @@ pub enum DepotReply {
     OutOfMemory,
 }
 
-/// What the log keeps of a reply: of a chunk that was fetched, its name.
+/// What the log keeps of a reply: of a chunk that was got, its name.
 #[derive(Drop)]
 pub enum DepotTold {
     NoImage,
@@ -177,6 +283,36 @@ pub enum DepotTold {
     Rotated {
         root: u32,
     },
+    NotRetiredHome {
+        home: u32,
+    },
+    Moving {
+        session: u64,
+        from: u32,
+        to: u32,
+        manifest: Arc<Manifest>,
+    },
+    Copied(Name),
+    Overtaken {
+        home: u32,
+    },
+    Moved {
+        from: u32,
+        to: u32,
+    },
+    Withdrawn,
+    NotRetired,
+    Serves(ImageName),
+    Session(u64),
+    Expired,
+    NotExpired,
+    Deleted,
+    NotDeleted,
+    Removed(Key),
+    Swept,
+    NoDoubt,
+    There,
+    Absent,
     Reaped,
     Fault(Key),
     Spoiled(Key),

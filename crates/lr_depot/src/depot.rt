@@ -1,27 +1,27 @@
 //! The depot as an object with a log.
-ghost use Rattle.std.specs.Prelude.{◌≡◌, ◌≤◌, ◌<◌, ◌+◌, ◌^◌, ℕ, Option, IsSome, IsTrue, IfOk, IfErr, vec_len, vec_capacity};
+ghost use Rattle.std.specs.Prelude.{◌≡◌, ◌≤◌, ◌<◌, ◌+◌, ◌^◌, ℕ, Option, IsSome, IsTrue, IfOk, IfErr, false, vec_len, vec_capacity};
 ghost use Rattle.lr_opening.specs.Cause.{IsCause};
-ghost use Rattle.lr_depot.specs.declared.call.DepotCall.TheVariants as call;
+ghost use Rattle.lr_depot.specs.declared.call.DepotReply.{DepotReply as Reply};
 ghost use Rattle.lr_depot.specs.Kernel.{places};
 ghost use Rattle.lr_depot.specs.Begun.{Start};
-ghost use Rattle.lr_depot.specs.Machine.{LogEntry};
-ghost use Rattle.lr_depot.specs.Depot.{IsWhole, HasPlace, Did, grown};
+ghost use Rattle.lr_depot.specs.Machine.{LogEntry, DepotStep};
+ghost use Rattle.lr_depot.specs.Depot.{IsWhole, HasPlace, Did, grown, state};
 
-use crate::asking::{fetch, put_chunk, put_manifest, rotate};
 use crate::call::{DepotCall, DepotNoted, DepotReply, DepotTold};
+use crate::doubts::keep_puts;
 use crate::kernel::{Answer, Kernel};
 use crate::log::DepotLog;
+use crate::makers::DoubtMakers;
 use crate::numbered::Numbered;
+use crate::serving::{Served, serve};
 use crate::start::DepotStart;
-use lr_manifest::{Chunk, Manifest};
 use lr_object::{Entry, Object};
 use lr_opening::{StartCause, open};
-use lr_origin::{ImageName, Origin};
+use lr_origin::Origin;
 use lr_roots::{Catalog, Keys};
 use std::alloc::Global;
 use std::marker::Model;
 use std::snapshot::Snapshot;
-use std::sync::Arc;
 
 /// Why a depot didn't start. The store comes back.
 #[derive(Drop)]
@@ -75,202 +75,37 @@ impl<O: Origin> Body<O> {
         self.log.reserve(places).is_ok()
     }
 
-    fn open_image(&mut self, caller: u32, image: ImageName) -> DepotReply
+    // Whether the call has its place in the log, or could take one for it.
+    fn make_room(&mut self, caller: u32, asked: &DepotCall) -> bool
         requires whole { (start : Start) × IsWhole O.objects O.faults start self.old }
-        ensures did { (start : Start) → IsWhole O.objects O.faults start self.old → Did O.objects O.faults start self.old self.new caller (call.OpenImage image) result }
+        ensures none { (result ≡ false) → (start : Start) → IsWhole O.objects O.faults start self.old → DepotStep (state start self.old.log.items) caller asked.now DepotReply.OutOfMemory }
+        ensures room { IsTrue result → (start : Start) → IsWhole O.objects O.faults start self.old → (reply : Reply) (e : LogEntry) → HasPlace start self.new caller asked.now reply e }
+        ensures items { self.new.log.items ≡ self.old.log.items }
+        ensures len { vec_len self.new.log ≡ vec_len self.old.log }
+        ensures capacity { vec_capacity self.old.log ≤ vec_capacity self.new.log }
+        ensures rest { (self.new.origin ≡ self.old.origin) × (self.new.kernel ≡ self.old.kernel) }
     {
-        if !self.take_places() {
-            return DepotReply::OutOfMemory;
+        if self.kernel.has_place(caller, asked) {
+            return true;
         }
-        let answer = self.kernel.open_image(caller, image);
-        finish(
-            &mut self.log,
-            caller,
-            DepotNoted::OpenImage { image },
-            answer,
-        )
-    }
-
-    fn fetch(&mut self, alloc: Global, caller: u32, lease: u64, index: u32) -> DepotReply
-        requires whole { (start : Start) × IsWhole O.objects O.faults start self.old }
-        ensures did { (start : Start) → IsWhole O.objects O.faults start self.old → Did O.objects O.faults start self.old self.new caller (call.Fetch lease index) result }
-    {
-        if !self.take_places() {
-            return DepotReply::OutOfMemory;
-        }
-        let answer = fetch(&mut self.origin, &self.kernel, alloc, caller, lease, index);
-        finish(
-            &mut self.log,
-            caller,
-            DepotNoted::Fetch { lease, index },
-            answer,
-        )
-    }
-
-    // A lease that is out has its place.
-    fn close(&mut self, caller: u32, lease: u64) -> DepotReply
-        requires whole { (start : Start) × IsWhole O.objects O.faults start self.old }
-        ensures did { (start : Start) → IsWhole O.objects O.faults start self.old → Did O.objects O.faults start self.old self.new caller (call.Close lease) result }
-    {
-        if self.kernel.has_lease(lease) {
-            return self.end_lease(caller, lease);
-        }
-        if !self.take_places() {
-            return DepotReply::OutOfMemory;
-        }
-        self.end_lease(caller, lease)
-    }
-
-    fn end_lease(&mut self, caller: u32, lease: u64) -> DepotReply
-        requires whole { (start : Start) × IsWhole O.objects O.faults start self.old }
-        requires room { vec_len self.old.log < vec_capacity self.old.log }
-        ensures did { (start : Start) → IsWhole O.objects O.faults start self.old → ((e : LogEntry) → HasPlace start self.old caller (call.Close lease) result e) → Did O.objects O.faults start self.old self.new caller (call.Close lease) result }
-    {
-        let answer = self.kernel.close(caller, lease);
-        finish(&mut self.log, caller, DepotNoted::Close { lease }, answer)
-    }
-
-    fn begin_create(&mut self, alloc: Global, caller: u32, image: ImageName) -> DepotReply
-        requires whole { (start : Start) × IsWhole O.objects O.faults start self.old }
-        ensures did { (start : Start) → IsWhole O.objects O.faults start self.old → Did O.objects O.faults start self.old self.new caller (call.BeginCreate image) result }
-    {
-        if !self.take_places() {
-            return DepotReply::OutOfMemory;
-        }
-        let answer = self.kernel.begin_create(alloc, caller, image);
-        finish(
-            &mut self.log,
-            caller,
-            DepotNoted::BeginCreate { image },
-            answer,
-        )
-    }
-
-    fn put_chunk(
-        &mut self,
-        alloc: Global,
-        caller: u32,
-        session: u64,
-        chunk: Arc<Chunk>,
-    ) -> DepotReply
-        requires whole { (start : Start) × IsWhole O.objects O.faults start self.old }
-        ensures did { (start : Start) → IsWhole O.objects O.faults start self.old → Did O.objects O.faults start self.old self.new caller (call.PutChunk session chunk) result }
-    {
-        if !self.take_places() {
-            return DepotReply::OutOfMemory;
-        }
-        let name = *chunk.name();
-        let answer = put_chunk(
-            &mut self.origin,
-            &mut self.kernel,
-            alloc,
-            caller,
-            session,
-            chunk,
-        );
-        finish(
-            &mut self.log,
-            caller,
-            DepotNoted::PutChunk { session, name },
-            answer,
-        )
-    }
-
-    fn put_manifest(
-        &mut self,
-        alloc: Global,
-        caller: u32,
-        session: u64,
-        manifest: Arc<Manifest>,
-    ) -> DepotReply
-        requires whole { (start : Start) × IsWhole O.objects O.faults start self.old }
-        ensures did { (start : Start) → IsWhole O.objects O.faults start self.old → Did O.objects O.faults start self.old self.new caller (call.PutManifest session manifest) result }
-    {
-        if !self.take_places() {
-            return DepotReply::OutOfMemory;
-        }
-        let answer = put_manifest(
-            &mut self.origin,
-            &mut self.kernel,
-            alloc,
-            caller,
-            session,
-            &manifest,
-        );
-        finish(
-            &mut self.log,
-            caller,
-            DepotNoted::PutManifest { session, manifest },
-            answer,
-        )
-    }
-
-    // A session that is out has its place.
-    fn abandon(&mut self, caller: u32, session: u64) -> DepotReply
-        requires whole { (start : Start) × IsWhole O.objects O.faults start self.old }
-        ensures did { (start : Start) → IsWhole O.objects O.faults start self.old → Did O.objects O.faults start self.old self.new caller (call.Abandon session) result }
-    {
-        if self.kernel.has_session(session, caller) {
-            return self.end_session(caller, session);
-        }
-        if !self.take_places() {
-            return DepotReply::OutOfMemory;
-        }
-        self.end_session(caller, session)
-    }
-
-    fn end_session(&mut self, caller: u32, session: u64) -> DepotReply
-        requires whole { (start : Start) × IsWhole O.objects O.faults start self.old }
-        requires room { vec_len self.old.log < vec_capacity self.old.log }
-        ensures did { (start : Start) → IsWhole O.objects O.faults start self.old → ((e : LogEntry) → HasPlace start self.old caller (call.Abandon session) result e) → Did O.objects O.faults start self.old self.new caller (call.Abandon session) result }
-    {
-        let answer = self.kernel.abandon(caller, session);
-        finish(
-            &mut self.log,
-            caller,
-            DepotNoted::Abandon { session },
-            answer,
-        )
-    }
-
-    fn rotate(&mut self, alloc: Global, caller: u32, salt: [u8; 32]) -> DepotReply
-        requires whole { (start : Start) × IsWhole O.objects O.faults start self.old }
-        ensures did { (start : Start) → IsWhole O.objects O.faults start self.old → Did O.objects O.faults start self.old self.new caller (call.Rotate salt) result }
-    {
-        if !self.take_places() {
-            return DepotReply::OutOfMemory;
-        }
-        let answer = rotate(&mut self.origin, &mut self.kernel, alloc, caller, salt);
-        finish(&mut self.log, caller, DepotNoted::Rotate { salt }, answer)
-    }
-
-    fn reap(&mut self, caller: u32) -> DepotReply
-        requires whole { (start : Start) × IsWhole O.objects O.faults start self.old }
-        ensures did { (start : Start) → IsWhole O.objects O.faults start self.old → Did O.objects O.faults start self.old self.new caller call.Reap result }
-    {
-        let answer = self.kernel.reap(caller);
-        finish(&mut self.log, caller, DepotNoted::Reap, answer)
+        self.take_places()
     }
 
     fn apply(&mut self, alloc: Global, caller: u32, asked: DepotCall) -> DepotReply
         requires whole { (start : Start) × IsWhole O.objects O.faults start self.old }
         ensures did { (start : Start) → IsWhole O.objects O.faults start self.old → Did O.objects O.faults start self.old self.new caller asked result }
     {
-        match asked {
-            DepotCall::OpenImage { image } => self.open_image(caller, image),
-            DepotCall::Fetch { lease, index } => self.fetch(alloc, caller, lease, index),
-            DepotCall::Close { lease } => self.close(caller, lease),
-            DepotCall::BeginCreate { image } => self.begin_create(alloc, caller, image),
-            DepotCall::PutChunk { session, chunk } => {
-                self.put_chunk(alloc, caller, session, chunk)
-            }
-            DepotCall::PutManifest { session, manifest } => {
-                self.put_manifest(alloc, caller, session, manifest)
-            }
-            DepotCall::Abandon { session } => self.abandon(caller, session),
-            DepotCall::Rotate { salt } => self.rotate(alloc, caller, salt),
-            DepotCall::Reap => self.reap(caller),
+        if !self.make_room(caller, &asked) {
+            return DepotReply::OutOfMemory;
         }
+        let Served { call, answer } = serve(
+            &mut self.origin,
+            &mut self.kernel,
+            alloc,
+            caller,
+            asked,
+        );
+        finish(&mut self.log, caller, call, answer)
     }
 }
 
@@ -326,6 +161,7 @@ impl<O: Origin> Depot<O> {
         let kernel = Kernel {
             catalog,
             doubts: Keys::new(alloc),
+            makers: DoubtMakers::new(alloc),
             leases: Numbered::new(alloc),
             sessions: Numbered::new(alloc),
             next_lease: 1,
@@ -370,14 +206,20 @@ impl<O: Origin> Depot<O> {
         } = body;
         let Kernel {
             catalog,
-            doubts,
+            mut doubts,
             ..
         } = kernel;
+        keep_puts(&mut doubts, &catalog);
         (origin, DepotLog { log, doubts }, catalog)
     }
 }
 
 impl<O: Origin> Object for Depot<O> {
+    ghost use Rattle.std.specs.Prelude.{MatchBool, [], ◌∷◌, ◌++◌};
+    ghost use Rattle.std.specs.Bool.{OnFalse};
+    ghost use Rattle.lr_spec.specs.Told.{Told};
+    ghost use Rattle.lr_spec.specs.Rose.{Rose};
+    ghost use Rattle.lr_depot.specs.Store.{StoreStep, IsFault, IsUnasked};
     ghost use Rattle.lr_depot.specs.Machine.{is_logged, DepotStep, Enters, IsShared, IsSharedEntry};
     ghost use Rattle.lr_depot.specs.Depot.{state, IsUnchanged};
 
@@ -409,7 +251,16 @@ impl<O: Origin> Object for Depot<O> {
 
     ghost enters = { λ _ _ _ call reply e. Enters call reply e };
 
-    fn apply(&mut self, alloc: Global, caller: u32, call: DepotCall) -> DepotReply {
+    fn apply(&mut self, alloc: Global, caller: u32, call: DepotCall) -> DepotReply
+        ensures fixed { self.new.start ≡ self.old.start }
+        ensures answers { DepotStep (state self.old.start self.old.log) caller call result }
+        ensures logged { MatchBool (is_logged result) ((e : LogEntry) × (self.new.log ≡ self.old.log ++ e ∷ []) × (e.caller ≡ caller) × Enters call result e × (IsShared call → IsSharedEntry e.call)) (self.new.log ≡ self.old.log) }
+        ensures unlogged { OnFalse (is_logged result) (IsUnchanged O.objects self.old self.new) }
+        ensures store { Told (O.objects self.old.origin) (λ m. StoreStep (state self.old.start self.old.log) caller call result m (O.objects self.new.origin)) }
+        ensures never_falls { O.faults self.old.origin ≤ O.faults self.new.origin }
+        ensures cause { IsFault result → Rose (O.faults self.old.origin) (O.faults self.new.origin) }
+        ensures unasked { IsUnasked (state self.old.start self.old.log) caller call result → self.new.origin ≡ self.old.origin }
+    {
         self.body.apply(alloc, caller, call)
     }
 

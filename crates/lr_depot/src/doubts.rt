@@ -1,13 +1,14 @@
-//! Questions about the puts that are in doubt.
-ghost use Rattle.std.specs.Prelude.{◌≡◌, ◌↔◌, IsTrue, slice_get};
+//! Questions about the doubts.
+ghost use Rattle.std.specs.Prelude.{◌≡◌, ◌↔◌, IsTrue, MatchOption, slice_get};
 ghost use Rattle.std.specs.FinMap as map;
-ghost use Rattle.lr_roots.specs.View.{Has};
+ghost use Rattle.lr_origin.specs.declared.key.KeyKind.{KeyKind as Kind};
+ghost use Rattle.lr_roots.specs.View.{Has, Lacks};
 ghost use Rattle.lr_roots.specs.Keys.{key_of};
 ghost use Rattle.lr_roots.specs.Names.{IsFirst};
-ghost use Rattle.lr_depot.specs.Doubts.{IsManifestOfImage};
+ghost use Rattle.lr_depot.specs.Doubts.{IsManifestOfImage, without_keys};
 
 use lr_origin::{ImageName, Key, KeyKind};
-use lr_roots::Keys;
+use lr_roots::{Catalog, Keys};
 
 fn is_manifest_of(kind: &KeyKind, image: &ImageName) -> bool
     ensures { IsTrue result ↔ IsManifestOfImage image.now kind.now }
@@ -42,4 +43,25 @@ pub(crate) fn doubt_at(doubts: &Keys, at: u64) -> Option<&Key>
     ensures { key_of result ≡ slice_get (map.keys doubts.now) at }
 {
     doubts.iter().nth(at as usize)
+}
+
+// A key in doubt that the catalog has: its deletion is in doubt.
+fn deletion_in_doubt(doubts: &Keys, catalog: &Catalog) -> Option<Key>
+    ensures { MatchOption result ((k : Kind) → Has doubts.now k → Lacks catalog.now.view k) (λ k. Has doubts.now k × Has catalog.now.view k) }
+{
+    for key in doubts.iter() {
+        if catalog.has(key) {
+            return Some(*key);
+        }
+    }
+    None
+}
+
+// Leaves the doubts of puts alone.
+pub(crate) fn keep_puts(doubts: &mut Keys, catalog: &Catalog)
+    ensures { doubts.new ≡ without_keys catalog.now.view doubts.old }
+{
+    while let Some(key) = deletion_in_doubt(doubts, catalog) {
+        doubts.remove(&key);
+    }
 }

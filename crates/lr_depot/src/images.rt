@@ -3,11 +3,11 @@ ghost use Rattle.std.specs.Prelude.{◌≡◌, ◌↔◌, IsTrue, IfOk, OnOk};
 ghost use Rattle.lr_roots.specs.Names.{AreMany, IsOneOf};
 ghost use Rattle.lr_rules.specs.State.{State};
 ghost use Rattle.lr_rules.specs.Names.{IsImage};
-ghost use Rattle.lr_depot.specs.Sessions.{Creates};
+ghost use Rattle.lr_depot.specs.Sessions.{IsCreation, HasCreation};
 ghost use Rattle.lr_depot.specs.Doubts.{IsManifestOfImage};
 ghost use Rattle.lr_depot.specs.Others.{IsDoubted, AddsOthers};
 
-use crate::numbered::{Numbered, Session};
+use crate::numbered::{Numbered, Session, created};
 use lr_origin::{ImageName, Key, KeyKind};
 use lr_roots::{Catalog, Keys};
 use lr_spec::OutOfMemory;
@@ -34,16 +34,30 @@ fn add_image(
     Ok(())
 }
 
+// Adds the image that a session creates, if it creates one.
+fn add_created(
+    catalog: &Catalog,
+    session: &Session,
+    others: &mut Vec<ImageName>,
+) -> Result<(), OutOfMemory>
+    ensures { OnOk result (AddsOthers catalog.now.view (λ i. IsCreation i session.now) others.old.items others.new.items) }
+{
+    match created(session) {
+        Some(image) => add_image(catalog, image, others),
+        None => Ok(()),
+    }
+}
+
 // Adds the images of create sessions.
 fn add_begun(
     catalog: &Catalog,
     sessions: &Numbered<Session>,
     others: &mut Vec<ImageName>,
 ) -> Result<(), OutOfMemory>
-    ensures { OnOk result (AddsOthers catalog.now.view (Creates sessions.now) others.old.items others.new.items) }
+    ensures { OnOk result (AddsOthers catalog.now.view (HasCreation sessions.now) others.old.items others.new.items) }
 {
     for (_, session) in sessions.iter() {
-        add_image(catalog, &session.image, others)?;
+        add_created(catalog, session, others)?;
     }
     Ok(())
 }

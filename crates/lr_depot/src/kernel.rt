@@ -1,33 +1,37 @@
 //! What the depot holds beside the store and its log, and the calls that the store isn't asked for.
-ghost use Rattle.std.specs.Prelude.{◌≡◌, ◌≢◌, ◌+◌, ◌<◌, ◌^◌, ◌↔◌, IsTrue, Some, None, IsSome, IfOk, MatchOption};
+ghost use Rattle.std.specs.Prelude.{◌≡◌, ◌≢◌, ◌+◌, ◌<◌, ◌^◌, ◌↔◌, IsTrue, Some, None, IfOk};
 ghost use Rattle.std.specs.Arc.{arc_value};
 ghost use Rattle.std.specs.FinMap as map;
 ghost use Rattle.lr_depot.specs.declared.call.DepotCall.TheVariants as call;
 ghost use Rattle.lr_depot.specs.declared.call.DepotNoted.TheVariants as noted;
 ghost use Rattle.lr_origin.specs.declared.key.KeyKind.{KeyKind as Kind};
 ghost use Rattle.lr_origin.specs.declared.key.KeyKind.TheVariants as kind;
-ghost use Rattle.lr_roots.specs.View.{Held, salt, manifest, Has, Fits};
-ghost use Rattle.lr_rules.specs.State.{Job, Creates};
+ghost use Rattle.lr_roots.specs.View.{Held, salt, manifest, Has, Lacks, Fits};
+ghost use Rattle.lr_roots.specs.Roots.{IsHome, IsTop};
 ghost use Rattle.lr_rules.specs.Calls.{MayBegin};
-ghost use Rattle.lr_depot.specs.Kernel.{Makers, state_of, IsReady, Serves, places};
+ghost use Rattle.lr_depot.specs.Kernel.{Makers, state_of, HasOwnPlace, IsReady, IsServed, places};
 
-use crate::call::{DepotReply, DepotTold};
+use crate::call::{DepotCall, DepotReply, DepotTold};
 use crate::doubts::first_manifest;
 use crate::images::images;
+use crate::job::Job as SessionJob;
+use crate::makers::DoubtMakers;
 use crate::numbered::{Lease, Numbered, Session, end_all, is_begun, session_of};
+use crate::sessions::is_own;
 use lr_manifest::Manifest;
 use lr_origin::ImageName;
-use lr_roots::{Catalog, Keys};
-use lr_rules::{IMAGES_MAX, NUMBER_MAX};
+use lr_roots::{Catalog, Keys, NUMBER_MAX};
+use lr_rules::IMAGES_MAX;
 use lr_spec::OutOfMemory;
 use std::alloc::Global;
 use std::sync::Arc;
 
-/// The view, the puts in doubt, leases and sessions.
+/// The view, the puts and deletions in doubt, the sessions that made puts in doubt, leases and sessions.
 #[derive(Drop)]
 pub(crate) struct Kernel {
     pub(crate) catalog: Catalog,
     pub(crate) doubts: Keys,
+    pub(crate) makers: DoubtMakers,
     pub(crate) leases: Numbered<Lease>,
     pub(crate) sessions: Numbered<Session>,
     pub(crate) next_lease: u64,
@@ -73,25 +77,23 @@ impl Kernel {
         self.leases.len() + self.sessions.len()
     }
 
-    /// Whether the lease is out.
-    pub(crate) fn has_lease(&self, lease: u64) -> bool
-        ensures { IsTrue result ↔ IsSome (map.get self.now.leases lease) }
+    /// Whether the caller's call ends something that is out, and so has its place in the log. A reaping may take none.
+    pub(crate) fn has_place(&self, caller: u32, asked: &DepotCall) -> bool
+        ensures { IsTrue result ↔ HasOwnPlace self.now caller asked.now }
     {
-        self.leases.get(lease).is_some()
-    }
-
-    /// Whether the caller has the session.
-    pub(crate) fn has_session(&self, session: u64, caller: u32) -> bool
-        ensures { IsTrue result ↔ ((j : Job) × (map.get self.now.sessions session ≡ Some (record { caller = caller; job = j }))) }
-    {
-        creation_of(&self.sessions, session, caller).is_some()
+        match asked {
+            DepotCall::Close { lease } => self.leases.get(*lease).is_some(),
+            DepotCall::Abandon { session } => is_own(&self.sessions, *session, caller),
+            DepotCall::Reap => true,
+            _ => false,
+        }
     }
 
     /// Leases an image with the manifest of its home.
     pub(crate) fn open_image(&mut self, caller: u32, image: ImageName) -> Answer
         requires ready { IsReady self.old }
         requires number { self.old.next_lease + 1 < 2 ^ 64 }
-        ensures served { Serves self.old self.new caller (call.OpenImage image) (noted.OpenImage image) result }
+        ensures served { IsServed self.old self.new caller (call.OpenImage image) (noted.OpenImage image) result }
     {
         if self.catalog.withdrawn(&image) {
             return logged(DepotReply::NoImage, DepotTold::NoImage);
@@ -123,7 +125,7 @@ impl Kernel {
     /// Ends a lease.
     pub(crate) fn close(&mut self, caller: u32, lease: u64) -> Answer
         requires ready { IsReady self.old }
-        ensures served { Serves self.old self.new caller (call.Close lease) (noted.Close lease) result }
+        ensures served { IsServed self.old self.new caller (call.Close lease) (noted.Close lease) result }
     {
         if self.leases.get(lease).is_none() {
             return logged(DepotReply::NoLease, DepotTold::NoLease);
@@ -136,7 +138,7 @@ impl Kernel {
     pub(crate) fn begin_create(&mut self, alloc: Global, caller: u32, image: ImageName) -> Answer
         requires ready { IsReady self.old }
         requires number { self.old.next_session + 1 < 2 ^ 64 }
-        ensures served { Serves self.old self.new caller (call.BeginCreate image) (noted.BeginCreate image) result }
+        ensures served { IsServed self.old self.new caller (call.BeginCreate image) (noted.BeginCreate image) result }
     {
         let root = self.catalog.roots();
         if root == 0 {
@@ -167,17 +169,17 @@ impl Kernel {
         requires begins { (makers : Makers) → MayBegin (state_of self.old makers) image root }
         requires ready { IsReady self.old }
         requires number { self.old.next_session + 1 < 2 ^ 64 }
-        ensures served { Serves self.old self.new caller (call.BeginCreate image) (noted.BeginCreate image) result }
+        ensures served { IsServed self.old self.new caller (call.BeginCreate image) (noted.BeginCreate image) result }
     {
         let salt = salt_of(&self.catalog, root);
         let session = self.next_session;
         let number = self.next_number;
-        let entry = Session {
-            caller,
+        let job = SessionJob::Creates {
             image,
             root,
             number,
         };
+        let entry = Session { caller, job };
         let Ok(()) = self.sessions.insert(session, entry) else {
             return Answer::no_memory();
         };
@@ -199,12 +201,75 @@ impl Kernel {
         )
     }
 
+    /// Begins to copy an image from its home to the active root.
+    pub(crate) fn begin_migrate(&mut self, caller: u32, image: ImageName) -> Answer
+        requires ready { IsReady self.old }
+        requires number { self.old.next_session + 1 < 2 ^ 64 }
+        ensures served { IsServed self.old self.new caller (call.BeginMigrate image) (noted.BeginMigrate image) result }
+    {
+        if self.catalog.withdrawn(&image) {
+            return logged(DepotReply::NoImage, DepotTold::NoImage);
+        }
+        let Some(home) = self.catalog.home(&image) else {
+            return logged(DepotReply::NoImage, DepotTold::NoImage);
+        };
+        let to = self.catalog.roots();
+        if home == to {
+            return logged(
+                DepotReply::NotRetiredHome { home },
+                DepotTold::NotRetiredHome { home },
+            );
+        }
+        self.begin_move(caller, image, home, to)
+    }
+
+    // Begins to copy an image from its home to a later root.
+    fn begin_move(&mut self, caller: u32, image: ImageName, from: u32, to: u32) -> Answer
+        requires home { IsHome self.old.catalog.view image from }
+        requires kept { Lacks self.old.catalog.view (kind.Withdrawn image) }
+        requires top { IsTop self.old.catalog.view to }
+        requires other { from ≢ to }
+        requires ready { IsReady self.old }
+        requires number { self.old.next_session + 1 < 2 ^ 64 }
+        ensures served { IsServed self.old self.new caller (call.BeginMigrate image) (noted.BeginMigrate image) result }
+    {
+        let Ok((manifest, told, own)) = handles(&self.catalog, from, &image) else {
+            return Answer::no_memory();
+        };
+        let session = self.next_session;
+        let job = SessionJob::Moves {
+            image,
+            from,
+            to,
+            manifest: own,
+        };
+        let entry = Session { caller, job };
+        let Ok(()) = self.sessions.insert(session, entry) else {
+            return Answer::no_memory();
+        };
+        self.next_session = session + 1;
+        logged(
+            DepotReply::Moving {
+                session,
+                from,
+                to,
+                manifest,
+            },
+            DepotTold::Moving {
+                session,
+                from,
+                to,
+                manifest: told,
+            },
+        )
+    }
+
     /// Ends a session of the caller.
     pub(crate) fn abandon(&mut self, caller: u32, session: u64) -> Answer
         requires ready { IsReady self.old }
-        ensures served { Serves self.old self.new caller (call.Abandon session) (noted.Abandon session) result }
+        ensures served { IsServed self.old self.new caller (call.Abandon session) (noted.Abandon session) result }
     {
-        if creation_of(&self.sessions, session, caller).is_none() {
+        if !is_own(&self.sessions, session, caller) {
             return logged(DepotReply::NoSession, DepotTold::NoSession);
         }
         self.sessions.remove(session);
@@ -214,7 +279,7 @@ impl Kernel {
     /// Ends all sessions of the caller.
     pub(crate) fn reap(&mut self, caller: u32) -> Answer
         requires ready { IsReady self.old }
-        ensures served { Serves self.old self.new caller call.Reap noted.Reap result }
+        ensures served { IsServed self.old self.new caller call.Reap noted.Reap result }
     {
         if session_of(&self.sessions, caller).is_none() {
             return Answer {
@@ -257,33 +322,4 @@ fn salt_of(catalog: &Catalog, root: u32) -> [u8; 32]
         Some(salt) => *salt,
         None => unreachable!(),
     }
-}
-
-/// What a session creates.
-#[derive(Clone, Copy)]
-pub(crate) struct Creation {
-    pub(crate) image: ImageName,
-    pub(crate) root: u32,
-    pub(crate) number: u64,
-}
-
-/// The creation of a session, where it is the caller's.
-pub(crate) fn creation_of(
-    sessions: &Numbered<Session>,
-    session: u64,
-    caller: u32,
-) -> Option<Creation>
-    ensures { MatchOption result
-        ((j : Job) → map.get sessions.now session ≢ Some (record { caller = caller; job = j }))
-        (λ c. map.get sessions.now session ≡ Some (record { caller = caller; job = Creates c.image c.root c.number })) }
-{
-    let entry = sessions.get(session)?;
-    if entry.caller != caller {
-        return None;
-    }
-    Some(Creation {
-        image: entry.image,
-        root: entry.root,
-        number: entry.number,
-    })
 }

@@ -6,6 +6,7 @@ ghost use Rattle.lr_roots.specs.Names.{AreFewer, IsNamed};
 
 use crate::doubts::{doubt_at, first_manifest};
 use crate::images::images;
+use crate::job::Job;
 use crate::numbered::{Numbered, Session, end_all, is_begun, session_of};
 use crate::put::{PutEnd, put_key};
 use lr_origin::{Fail as Failing, ImageName, Key, KeyKind, MemOrigin, Op};
@@ -124,13 +125,12 @@ fn each_image_is_counted_once(rt: HostRuntime) -> Result<(), Fail> {
     let mut sessions = Numbered::new(alloc);
     let begun: [(u64, u32, &[u8]); 3] = [(1, 1, b"a"), (2, 2, b"c"), (3, 1, b"b")];
     for (number, caller, name) in begun {
-        let session = Session {
-            caller,
+        let job = Job::Creates {
             image: image(name)?,
             root: 1,
             number,
         };
-        sessions.insert(number, session)?;
+        sessions.insert(number, Session { caller, job })?;
     }
     assert!(rt; images(alloc, &catalog, &doubts, &sessions) == Ok(3));
     let first = first_manifest(&doubts, &image(b"b")?);

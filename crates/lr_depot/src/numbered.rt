@@ -4,8 +4,9 @@ ghost use Rattle.std.specs.Ordering.{nat_cmp};
 ghost use Rattle.std.specs.List.Sorted.{IsStrictlySortedBy};
 ghost use Rattle.std.specs.FinMap as map;
 ghost use Rattle.lr_rules.specs.State.{Session as PlainSession};
-ghost use Rattle.lr_depot.specs.Sessions.{Creates, without_caller};
+ghost use Rattle.lr_depot.specs.Sessions.{IsCreation, IsCreated, HasCreation, without_caller};
 
+use crate::job::Job;
 use lr_manifest::Manifest;
 use lr_origin::ImageName;
 use std::alloc::{AllocError, Global};
@@ -23,28 +24,27 @@ pub(crate) struct Lease {
 impl Model for Lease {
     ghost use Rattle.std.specs.Prelude.{ℕ, List};
     ghost use Rattle.std.specs.Arc.{arc_value};
-    ghost use Rattle.lr_manifest.specs.Manifest.{Fields};
+    ghost use Rattle.lr_manifest.specs.Manifest.{ManifestFields};
 
-    ghost Value = { List ℕ × Fields };
+    ghost Value = { List ℕ × ManifestFields };
 
     ghost view = { λ l. (l.image, arc_value l.manifest) };
 }
 
-/// The creation of an image: its caller, its root and its creation number.
+/// A session of a caller.
 #[derive(Drop)]
 pub(crate) struct Session {
     pub(crate) caller: u32,
-    pub(crate) image: ImageName,
-    pub(crate) root: u32,
-    pub(crate) number: u64,
+    pub(crate) job: Job,
 }
 
 impl Model for Session {
-    ghost use Rattle.lr_rules.specs.State.{Session, Creates};
+    ghost use Rattle.lr_rules.specs.State.{Session};
+    ghost use Rattle.lr_depot.specs.Jobs.{job_of};
 
     ghost Value = { Session };
 
-    ghost view = { λ s. record { caller = s.caller; job = Creates s.image s.root s.number } };
+    ghost view = { λ s. record { caller = s.caller; job = job_of s.job } };
 }
 
 /// Things by their numbers, which a contract sees as a finite map. Only `insert` takes memory.
@@ -138,12 +138,32 @@ pub(crate) fn end_all(sessions: &mut Numbered<Session>, caller: u32)
     }
 }
 
+// The image of a session that creates one.
+pub(crate) fn created(session: &Session) -> Option<&ImageName>
+    ensures { IsCreated (option_copied result) session.now }
+{
+    match &session.job {
+        Job::Creates { image, .. } => Some(image),
+        Job::Moves { .. } => None,
+    }
+}
+
+// Whether the session creates the image.
+pub(crate) fn creates(session: &Session, image: &ImageName) -> bool
+    ensures { IsTrue result ↔ IsCreation image.now session.now }
+{
+    match created(session) {
+        Some(own) => own == image,
+        None => false,
+    }
+}
+
 // Whether a create session has the image.
 pub(crate) fn is_begun(sessions: &Numbered<Session>, image: &ImageName) -> bool
-    ensures { IsTrue result ↔ Creates sessions.now image.now }
+    ensures { IsTrue result ↔ HasCreation sessions.now image.now }
 {
     for (_, session) in sessions.iter() {
-        if session.image == *image {
+        if creates(session, image) {
             return true;
         }
     }

@@ -12,9 +12,9 @@ use std::test::Fail;
 
 const ROOT: &[u8] = b"r/0000000001/a";
 
-const A_IN_ROOT: &[u8] = b"r/0000000001/m/a";
+pub(crate) const A_IN_ROOT: &[u8] = b"r/0000000001/m/a";
 
-const CHUNK_IN_ROOT: &[u8] =
+pub(crate) const CHUNK_IN_ROOT: &[u8] =
     b"r/0000000001/c/33a150bceb13c1a992231e65b4fad16815212fc06cdb408996d32eeb2cef9ebb";
 
 // The SHA-256 of 524,288 bytes of 1.
@@ -34,7 +34,7 @@ const NO_CHUNK: [u8; 16] = [0, 0, 0, 0, 0, 0, 0, 0, 0, 8, 0, 0, 0, 0, 0, 0];
 // A call in short. An image has the chunk of 524,288 bytes of 1, or it is empty. A session is followed by the creation
 // number in the nonce of the manifest.
 #[derive(Clone, Copy)]
-enum Ask {
+pub(crate) enum Ask {
     Open(&'static [u8]),
     Fetch(u64, u32),
     Close(u64),
@@ -44,16 +44,31 @@ enum Ask {
     Empty(u64, u64),
     Abandon(u64),
     Rotate,
+    Migrate(&'static [u8]),
+    Copy(u64, u32),
+    Finish(u64),
+    Withdraw(&'static [u8]),
+    Expire(u32),
+    Delete(u32),
+    Sweep(u32),
+    Settle(&'static [u8]),
     Reap,
 }
 
 // A caller, its call, and the reply: a word, and the first number that the reply tells.
-type Step = (u32, Ask, &'static str, u64);
+pub(crate) type Step = (u32, Ask, &'static str, u64);
 
 fn image(text: &[u8]) -> Result<ImageName, Fail> {
     match ImageName::parse(text) {
         Some(image) => Ok(image),
         None => Err("a name was refused".into()),
+    }
+}
+
+fn key(text: &[u8]) -> Result<Key, Fail> {
+    match Key::parse(text) {
+        Some(key) => Ok(key),
+        None => Err("a key was refused".into()),
     }
 }
 
@@ -108,6 +123,18 @@ fn call_of(alloc: Global, ask: Ask) -> Result<DepotCall, Fail> {
         },
         Ask::Abandon(session) => DepotCall::Abandon { session },
         Ask::Rotate => DepotCall::Rotate { salt: [5; 32] },
+        Ask::Migrate(name) => DepotCall::BeginMigrate {
+            image: image(name)?,
+        },
+        Ask::Copy(session, index) => DepotCall::CopyRead { session, index },
+        Ask::Finish(session) => DepotCall::FinishMigrate { session },
+        Ask::Withdraw(name) => DepotCall::Withdraw {
+            image: image(name)?,
+        },
+        Ask::Expire(root) => DepotCall::Expire { root },
+        Ask::Delete(root) => DepotCall::Delete { root },
+        Ask::Sweep(root) => DepotCall::Sweep { root },
+        Ask::Settle(text) => DepotCall::Settle { key: key(text)? },
         Ask::Reap => DepotCall::Reap,
     })
 }
@@ -134,6 +161,24 @@ fn short(reply: &DepotReply) -> (&'static str, u64) {
         DepotReply::Abandoned => ("abandoned", 0),
         DepotReply::RootsEnd => ("roots end", 0),
         DepotReply::Rotated { root } => ("rotated", *root as u64),
+        DepotReply::NotRetiredHome { home } => ("not retired", *home as u64),
+        DepotReply::Moving { session, .. } => ("moving", *session),
+        DepotReply::Copied(_) => ("copied", 0),
+        DepotReply::Overtaken { home } => ("overtaken", *home as u64),
+        DepotReply::Moved { from, .. } => ("moved", *from as u64),
+        DepotReply::Withdrawn => ("withdrawn", 0),
+        DepotReply::NotRetired => ("not retired", 0),
+        DepotReply::Serves(_) => ("serves", 0),
+        DepotReply::Session(session) => ("session", *session),
+        DepotReply::Expired => ("expired", 0),
+        DepotReply::NotExpired => ("not expired", 0),
+        DepotReply::Deleted => ("deleted", 0),
+        DepotReply::NotDeleted => ("not deleted", 0),
+        DepotReply::Removed(_) => ("removed", 0),
+        DepotReply::Swept => ("swept", 0),
+        DepotReply::NoDoubt => ("no doubt", 0),
+        DepotReply::There => ("there", 0),
+        DepotReply::Absent => ("absent", 0),
         DepotReply::Reaped => ("reaped", 0),
         DepotReply::Nothing => ("nothing", 0),
         DepotReply::Fault(_) => ("fault", 0),
@@ -150,7 +195,7 @@ fn told_key(reply: &DepotReply) -> Option<&Key> {
     }
 }
 
-fn start(alloc: Global, origin: MemOrigin) -> Result<Depot<MemOrigin>, Fail> {
+pub(crate) fn start(alloc: Global, origin: MemOrigin) -> Result<Depot<MemOrigin>, Fail> {
     match Depot::start(alloc, origin) {
         Ok(depot) => Ok(depot),
         Err(_) => Err("the depot didn't start".into()),
@@ -184,7 +229,7 @@ fn is_of(reply: &DepotReply, step: &Step, key: &[u8]) -> bool {
 }
 
 // Makes the calls in turn. The place of the first whose reply is another, or tells another key.
-fn first_other(
+pub(crate) fn first_other(
     alloc: Global,
     depot: &mut Depot<MemOrigin>,
     steps: &[Step],
@@ -225,30 +270,31 @@ fn is_chunk_put(entry: Option<&Entry<DepotNoted, DepotTold>>) -> bool {
     }
 }
 
+const BY_HAND: &[Step] = &[
+    (1, Ask::Begin(b"a"), "no root", 0),
+    (1, Ask::Rotate, "rotated", 1),
+    (1, Ask::Begin(b"a"), "began", 1),
+    (2, Ask::Begin(b"a"), "taken", 0),
+    (1, Ask::Manifest(1, 1), "missing", 0),
+    (1, Ask::Manifest(1, 2), "nonce", 0),
+    (2, Ask::Chunk(1), "no session", 0),
+    (2, Ask::Manifest(1, 1), "no session", 0),
+    (2, Ask::Abandon(1), "no session", 0),
+    (2, Ask::Reap, "nothing", 0),
+    (1, Ask::Open(b"a"), "no image", 0),
+    (1, Ask::Chunk(1), "kept", 0),
+    (1, Ask::Chunk(1), "kept", 0),
+    (1, Ask::Manifest(1, 1), "made", 1),
+    (1, Ask::Chunk(1), "no session", 0),
+    (1, Ask::Begin(b"a"), "taken", 0),
+    (1, Ask::Reap, "nothing", 0),
+];
+
 #[test]
 fn an_image_is_created_by_hand(rt: HostRuntime) -> Result<(), Fail> {
     let alloc = rt.alloc();
     let mut depot = start(alloc, MemOrigin::new(alloc))?;
-    let steps: [Step; 17] = [
-        (1, Ask::Begin(b"a"), "no root", 0),
-        (1, Ask::Rotate, "rotated", 1),
-        (1, Ask::Begin(b"a"), "began", 1),
-        (2, Ask::Begin(b"a"), "taken", 0),
-        (1, Ask::Manifest(1, 1), "missing", 0),
-        (1, Ask::Manifest(1, 2), "nonce", 0),
-        (2, Ask::Chunk(1), "no session", 0),
-        (2, Ask::Manifest(1, 1), "no session", 0),
-        (2, Ask::Abandon(1), "no session", 0),
-        (2, Ask::Reap, "nothing", 0),
-        (1, Ask::Open(b"a"), "no image", 0),
-        (1, Ask::Chunk(1), "kept", 0),
-        (1, Ask::Chunk(1), "kept", 0),
-        (1, Ask::Manifest(1, 1), "made", 1),
-        (1, Ask::Chunk(1), "no session", 0),
-        (1, Ask::Begin(b"a"), "taken", 0),
-        (1, Ask::Reap, "nothing", 0),
-    ];
-    assert_eq!(rt; first_other(alloc, &mut depot, &steps, b"")?, None);
+    assert_eq!(rt; first_other(alloc, &mut depot, BY_HAND, b"")?, None);
     // A reply of nothing isn't logged.
     assert_eq!(rt; depot.entries(), 15);
     assert!(rt; is_began(depot.entry(2)));
@@ -274,49 +320,51 @@ fn is_the_chunk(reply: &DepotReply) -> bool {
     }
 }
 
+const LEASES: &[Step] = &[
+    (1, Ask::Rotate, "rotated", 1),
+    (1, Ask::Begin(b"a"), "began", 1),
+    (1, Ask::Chunk(1), "kept", 0),
+    (1, Ask::Manifest(1, 1), "made", 1),
+    // The home of the image stays its first root.
+    (1, Ask::Rotate, "rotated", 2),
+    (1, Ask::Begin(b"a"), "taken", 0),
+    (2, Ask::Open(b"a"), "opened", 1),
+    (2, Ask::Open(b"a"), "opened", 2),
+    (2, Ask::Fetch(1, 1), "no chunk", 0),
+    (2, Ask::Fetch(3, 0), "no lease", 0),
+];
+
+const SESSIONS: &[Step] = &[
+    (2, Ask::Close(1), "closed", 0),
+    (2, Ask::Close(1), "no lease", 0),
+    (2, Ask::Fetch(1, 0), "no lease", 0),
+    (2, Ask::Fetch(2, 0), "fetched", 0),
+    (2, Ask::Open(b"a"), "opened", 3),
+    (1, Ask::Begin(b"b"), "began", 2),
+    (2, Ask::Begin(b"c"), "began", 3),
+    (2, Ask::Begin(b"d"), "began", 4),
+    (1, Ask::Abandon(2), "abandoned", 0),
+    (1, Ask::Abandon(2), "no session", 0),
+    (1, Ask::Begin(b"b"), "began", 5),
+    (2, Ask::Reap, "reaped", 0),
+    (2, Ask::Chunk(3), "no session", 0),
+    (2, Ask::Reap, "nothing", 0),
+    (1, Ask::Chunk(5), "kept", 0),
+];
+
 #[test]
 fn leases_and_sessions_come_and_go(rt: HostRuntime) -> Result<(), Fail> {
     let alloc = rt.alloc();
     let mut depot = start(alloc, MemOrigin::new(alloc))?;
-    let first: [Step; 10] = [
-        (1, Ask::Rotate, "rotated", 1),
-        (1, Ask::Begin(b"a"), "began", 1),
-        (1, Ask::Chunk(1), "kept", 0),
-        (1, Ask::Manifest(1, 1), "made", 1),
-        // The home of the image stays its first root.
-        (1, Ask::Rotate, "rotated", 2),
-        (1, Ask::Begin(b"a"), "taken", 0),
-        (2, Ask::Open(b"a"), "opened", 1),
-        (2, Ask::Open(b"a"), "opened", 2),
-        (2, Ask::Fetch(1, 1), "no chunk", 0),
-        (2, Ask::Fetch(3, 0), "no lease", 0),
-    ];
-    assert_eq!(rt; first_other(alloc, &mut depot, &first, b"")?, None);
+    assert_eq!(rt; first_other(alloc, &mut depot, LEASES, b"")?, None);
     assert!(rt; is_the_chunk(&make_call(alloc, &mut depot, 1, Ask::Fetch(1, 0))?));
-    let second: [Step; 15] = [
-        (2, Ask::Close(1), "closed", 0),
-        (2, Ask::Close(1), "no lease", 0),
-        (2, Ask::Fetch(1, 0), "no lease", 0),
-        (2, Ask::Fetch(2, 0), "fetched", 0),
-        (2, Ask::Open(b"a"), "opened", 3),
-        (1, Ask::Begin(b"b"), "began", 2),
-        (2, Ask::Begin(b"c"), "began", 3),
-        (2, Ask::Begin(b"d"), "began", 4),
-        (1, Ask::Abandon(2), "abandoned", 0),
-        (1, Ask::Abandon(2), "no session", 0),
-        (1, Ask::Begin(b"b"), "began", 5),
-        (2, Ask::Reap, "reaped", 0),
-        (2, Ask::Chunk(3), "no session", 0),
-        (2, Ask::Reap, "nothing", 0),
-        (1, Ask::Chunk(5), "kept", 0),
-    ];
-    assert_eq!(rt; first_other(alloc, &mut depot, &second, b"")?, None);
+    assert_eq!(rt; first_other(alloc, &mut depot, SESSIONS, b"")?, None);
     assert!(rt; depot.catalog().counts(2) == (0, 1));
     Ok(())
 }
 
 // A store that fails the first call of an operation on a key.
-fn fails_once(alloc: Global, op: Op, key: &[u8], done: bool) -> Result<MemOrigin, Fail> {
+pub(crate) fn fails_once(alloc: Global, op: Op, key: &[u8], done: bool) -> Result<MemOrigin, Fail> {
     let mut fails = Vec::new(alloc);
     fails.push(Failing {
         op,
@@ -342,9 +390,7 @@ fn left_of(
     steps: &[Step],
     text: &[u8],
 ) -> Result<Option<Left>, Fail> {
-    let Some(key) = Key::parse(text) else {
-        return Err("a key was refused".into());
-    };
+    let key = key(text)?;
     let mut depot = start(alloc, origin)?;
     if first_other(alloc, &mut depot, steps, text)?.is_some() {
         return Ok(None);
@@ -370,56 +416,61 @@ fn is_doubted(alloc: Global, key: &[u8], steps: &[Step], done: bool) -> Result<b
     Ok(left_of(alloc, origin, steps, key)? == Some(left))
 }
 
+const ROOT_FAILS: &[Step] = &[
+    (1, Ask::Rotate, "fault", 0),
+    (1, Ask::Rotate, "doubt", 0),
+    (1, Ask::Begin(b"a"), "no root", 0),
+];
+
+const CHUNK_FAILS: &[Step] = &[
+    (1, Ask::Rotate, "rotated", 1),
+    (1, Ask::Begin(b"a"), "began", 1),
+    (1, Ask::Chunk(1), "fault", 0),
+    (1, Ask::Manifest(1, 1), "missing", 0),
+];
+
+const MANIFEST_FAILS: &[Step] = &[
+    (1, Ask::Rotate, "rotated", 1),
+    (1, Ask::Begin(b"a"), "began", 1),
+    (1, Ask::Chunk(1), "kept", 0),
+    (1, Ask::Manifest(1, 1), "fault", 0),
+    (1, Ask::Manifest(1, 1), "doubt", 0),
+    (2, Ask::Open(b"a"), "no image", 0),
+    (1, Ask::Abandon(1), "abandoned", 0),
+    (1, Ask::Begin(b"a"), "doubt", 0),
+];
+
 #[test]
 fn a_failed_put_is_in_doubt(rt: HostRuntime) -> Result<(), Fail> {
-    let root: [Step; 3] = [
-        (1, Ask::Rotate, "fault", 0),
-        (1, Ask::Rotate, "doubt", 0),
-        (1, Ask::Begin(b"a"), "no root", 0),
-    ];
-    let chunk: [Step; 4] = [
-        (1, Ask::Rotate, "rotated", 1),
-        (1, Ask::Begin(b"a"), "began", 1),
-        (1, Ask::Chunk(1), "fault", 0),
-        (1, Ask::Manifest(1, 1), "missing", 0),
-    ];
-    let manifest: [Step; 8] = [
-        (1, Ask::Rotate, "rotated", 1),
-        (1, Ask::Begin(b"a"), "began", 1),
-        (1, Ask::Chunk(1), "kept", 0),
-        (1, Ask::Manifest(1, 1), "fault", 0),
-        (1, Ask::Manifest(1, 1), "doubt", 0),
-        (2, Ask::Open(b"a"), "no image", 0),
-        (1, Ask::Abandon(1), "abandoned", 0),
-        (1, Ask::Begin(b"a"), "doubt", 0),
-    ];
     for done in [false, true] {
-        assert!(rt; is_doubted(rt.alloc(), ROOT, &root, done)?);
-        assert!(rt; is_doubted(rt.alloc(), CHUNK_IN_ROOT, &chunk, done)?);
-        assert!(rt; is_doubted(rt.alloc(), A_IN_ROOT, &manifest, done)?);
+        assert!(rt; is_doubted(rt.alloc(), ROOT, ROOT_FAILS, done)?);
+        assert!(rt; is_doubted(rt.alloc(), CHUNK_IN_ROOT, CHUNK_FAILS, done)?);
+        assert!(rt; is_doubted(rt.alloc(), A_IN_ROOT, MANIFEST_FAILS, done)?);
     }
     Ok(())
 }
 
+const PUT_AGAIN: &[Step] = &[
+    (1, Ask::Rotate, "rotated", 1),
+    (1, Ask::Begin(b"a"), "began", 1),
+    (1, Ask::Chunk(1), "fault", 0),
+    (1, Ask::Chunk(1), "kept", 0),
+    (1, Ask::Manifest(1, 1), "made", 1),
+];
+
+const GOT_AGAIN: &[Step] = &[
+    (1, Ask::Rotate, "rotated", 1),
+    (1, Ask::Begin(b"a"), "began", 1),
+    (1, Ask::Chunk(1), "kept", 0),
+    (1, Ask::Manifest(1, 1), "made", 1),
+    (2, Ask::Open(b"a"), "opened", 1),
+    (2, Ask::Fetch(1, 0), "fault", 0),
+    (2, Ask::Fetch(1, 0), "fetched", 0),
+];
+
 #[test]
 fn a_failed_call_is_made_again(rt: HostRuntime) -> Result<(), Fail> {
-    let put: [Step; 5] = [
-        (1, Ask::Rotate, "rotated", 1),
-        (1, Ask::Begin(b"a"), "began", 1),
-        (1, Ask::Chunk(1), "fault", 0),
-        (1, Ask::Chunk(1), "kept", 0),
-        (1, Ask::Manifest(1, 1), "made", 1),
-    ];
-    let get: [Step; 7] = [
-        (1, Ask::Rotate, "rotated", 1),
-        (1, Ask::Begin(b"a"), "began", 1),
-        (1, Ask::Chunk(1), "kept", 0),
-        (1, Ask::Manifest(1, 1), "made", 1),
-        (2, Ask::Open(b"a"), "opened", 1),
-        (2, Ask::Fetch(1, 0), "fault", 0),
-        (2, Ask::Fetch(1, 0), "fetched", 0),
-    ];
-    let runs: [(Op, &[Step]); 2] = [(Op::Put, &put), (Op::Get, &get)];
+    let runs: [(Op, &[Step]); 2] = [(Op::Put, PUT_AGAIN), (Op::Get, GOT_AGAIN)];
     let left = Left {
         in_doubt: false,
         in_view: true,
@@ -456,26 +507,29 @@ fn store_of(alloc: Global, number: u64, is_empty: bool) -> Result<MemOrigin, Fai
     Ok(store)
 }
 
+const AFTER_SEVEN: &[Step] = &[
+    (1, Ask::Begin(b"b"), "began", 1),
+    (1, Ask::Empty(1, 7), "nonce", 0),
+    (1, Ask::Empty(1, 8), "made", 1),
+];
+
+const LAST_NUMBER: &[Step] = &[
+    (1, Ask::Begin(b"b"), "began", 1),
+    (1, Ask::Empty(1, 9_223_372_036_854_775_807), "made", 1),
+    (1, Ask::Begin(b"c"), "full", 0),
+];
+
+const NO_NUMBER: &[Step] = &[
+    (1, Ask::Open(b"a"), "opened", 1),
+    (1, Ask::Begin(b"b"), "full", 0),
+];
+
 #[test]
 fn creation_numbers_follow_those_of_the_store(rt: HostRuntime) -> Result<(), Fail> {
-    let some: [Step; 3] = [
-        (1, Ask::Begin(b"b"), "began", 1),
-        (1, Ask::Empty(1, 7), "nonce", 0),
-        (1, Ask::Empty(1, 8), "made", 1),
-    ];
-    let last: [Step; 3] = [
-        (1, Ask::Begin(b"b"), "began", 1),
-        (1, Ask::Empty(1, 9_223_372_036_854_775_807), "made", 1),
-        (1, Ask::Begin(b"c"), "full", 0),
-    ];
-    let none: [Step; 2] = [
-        (1, Ask::Open(b"a"), "opened", 1),
-        (1, Ask::Begin(b"b"), "full", 0),
-    ];
     let runs: [(u64, &[Step]); 3] = [
-        (7, &some),
-        (9_223_372_036_854_775_806, &last),
-        (9_223_372_036_854_775_807, &none),
+        (7, AFTER_SEVEN),
+        (9_223_372_036_854_775_806, LAST_NUMBER),
+        (9_223_372_036_854_775_807, NO_NUMBER),
     ];
     for (number, steps) in runs {
         let store = store_of(rt.alloc(), number, true)?;
@@ -493,34 +547,37 @@ fn is_made(alloc: Global, depot: &mut Depot<MemOrigin>, number: u64) -> Result<b
     Ok(short(&began) == ("began", number) && short(&made) == ("made", 1))
 }
 
+const ALL_IMAGES: &[Step] = &[
+    (1, Ask::Begin(b"1024"), "taken", 0),
+    (1, Ask::Begin(b"1025"), "full", 0),
+];
+
+const ONE_ROOT: &[Step] = &[(1, Ask::Rotate, "rotated", 1)];
+
 #[test]
 fn there_are_1_024_images(rt: HostRuntime) -> Result<(), Fail> {
     let alloc = rt.alloc();
-    let first: [Step; 1] = [(1, Ask::Rotate, "rotated", 1)];
-    let last: [Step; 2] = [
-        (1, Ask::Begin(b"1024"), "taken", 0),
-        (1, Ask::Begin(b"1025"), "full", 0),
-    ];
     let mut depot = start(alloc, MemOrigin::new(alloc))?;
-    assert_eq!(rt; first_other(alloc, &mut depot, &first, b"")?, None);
+    assert_eq!(rt; first_other(alloc, &mut depot, ONE_ROOT, b"")?, None);
     for number in 1..=1024 {
         assert!(rt; is_made(alloc, &mut depot, number)?);
     }
-    assert_eq!(rt; first_other(alloc, &mut depot, &last, b"")?, None);
+    assert_eq!(rt; first_other(alloc, &mut depot, ALL_IMAGES, b"")?, None);
     Ok(())
 }
+
+const ALL_ROOTS: &[Step] = &[(1, Ask::Rotate, "roots end", 0)];
 
 #[test]
 fn there_are_1_000_roots(rt: HostRuntime) -> Result<(), Fail> {
     let alloc = rt.alloc();
-    let last: [Step; 1] = [(1, Ask::Rotate, "roots end", 0)];
     let mut depot = start(alloc, MemOrigin::new(alloc))?;
     for root in 1..=1000 {
         let step: Step = (1, Ask::Rotate, "rotated", root);
         let reply = make_call(alloc, &mut depot, 1, Ask::Rotate)?;
         assert!(rt; is_of(&reply, &step, b""));
     }
-    assert_eq!(rt; first_other(alloc, &mut depot, &last, b"")?, None);
+    assert_eq!(rt; first_other(alloc, &mut depot, ALL_ROOTS, b"")?, None);
     Ok(())
 }
 
@@ -545,16 +602,17 @@ fn a_foreign_key_hands_the_store_back(rt: HostRuntime) -> Result<(), Fail> {
     Ok(())
 }
 
+const SPOILED: &[Step] = &[
+    (1, Ask::Open(b"a"), "opened", 1),
+    (1, Ask::Fetch(1, 0), "spoiled", 0),
+];
+
 #[test]
 fn a_chunk_of_another_body_is_spoiled(rt: HostRuntime) -> Result<(), Fail> {
     let alloc = rt.alloc();
-    let steps: [Step; 2] = [
-        (1, Ask::Open(b"a"), "opened", 1),
-        (1, Ask::Fetch(1, 0), "spoiled", 0),
-    ];
     let mut depot = start(alloc, store_of(alloc, 1, false)?)?;
     assert_eq!(rt;
-        first_other(alloc, &mut depot, &steps, CHUNK_IN_ROOT)?,
+        first_other(alloc, &mut depot, SPOILED, CHUNK_IN_ROOT)?,
         None
     );
     Ok(())

@@ -1,23 +1,9 @@
 -- Tests that the checker computes.
-use Rattle.std.proofs.Common.{◌≡◌, ℕ, zero, suc, ◌^◌, ◌<◌, ◌==◌, ◌&&◌, Bool, true, refl, slice_index, nat_lt, arith, inl, inr, subst, not-suc-le-zero}
-use Rattle.std.proofs.lemmas.Bool.{and_parts, cases_lt, eqb-true, ltb-true}
+use Rattle.std.proofs.Common.{◌≡◌, ℕ, suc, ◌^◌, ◌<◌, ◌==◌, ◌&&◌, Bool, true, refl, slice_index, nat_lt}
+use Rattle.std.proofs.lemmas.Bool.{and_parts, eqb-true, ltb-true}
 use Rattle.lr_field.specs.Field.{product, polynomial_product, remainder, inverse, inverse_below}
+use Rattle.lr_field.proofs.AllBelow.{all_below, all_below-at}
 use Rattle.lr_field.specs.declared.tables.TheConstants.{EXPONENTIALS, LOGARITHMS, INVERSES}
-
--- each number below n passes
-unfoldable pub all_below : (ℕ → Bool) → ℕ → Bool
-all_below p zero = true
-all_below p (suc n) = p n && all_below p n
-
-pub all_below-at : (p : ℕ → Bool) (n j : ℕ) → all_below p n ≡ true → j < n → p j ≡ true
-unfolding all_below
-all_below-at p zero j h lt = absurd (not-suc-le-zero lt)
-all_below-at p (suc n) j h lt =
-    let parts = and_parts (p n) (all_below p n) h in
-    elim (cases_lt j n) [
-      | inl below ↦ all_below-at p n j parts.1 below
-      | inr last ↦ let at : n ≡ j = omega arith in subst (λ k. p k ≡ true) at parts.0
-    ]
 
 basis_comm : all_below (λ i. all_below (λ j. product (2 ^ i) (2 ^ j) == product (2 ^ j) (2 ^ i)) 8) 8 ≡ true
 unfolding all_below product polynomial_product remainder

@@ -81,4 +81,4 @@ any_values ps vs hp hv apart len =
     (through inverse ps vs, (t.bytes, t.count, sym t.values))
 
 pub is_field : IsField
-is_field = record { closed = product-lt; one = one-product; commutative = product_comm; associative = product_assoc; distributive = product-xor_r }
+is_field = record { sum_closed = xor_lt 8; sum_zero = xor_zero_r; sum_opposite = xor_self; sum_commutative = xor_comm; sum_associative = xor_assoc; closed = product-lt; one = one-product; inverse = inverse_law; commutative = product_comm; associative = product_assoc; distributive = product-xor_r }

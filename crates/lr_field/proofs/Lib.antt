@@ -1,5 +1,7 @@
-pub mod Computed
+pub mod AllBelow
+mod Computed
+mod FieldLaws
+mod Fixed
+pub mod Public
 pub mod Linear
-pub mod FieldLaws
-pub mod Polynomials
-pub mod Fixed
+mod Polynomials

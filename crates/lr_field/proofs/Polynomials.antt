@@ -125,7 +125,7 @@ scaled_sum inverse iv x p c cs (q ∷ qs) (w ∷ ws) lx lp lc hc hq hw apart len
     ∙ ap (λ (k : ℕ). bit_xor k (bit_xor (product m (product w t)) (product m tail))) (sym (product-xor_l v rest fp))
     ∙ ap (bit_xor (product (bit_xor v rest) fp)) (sym (product-xor_r m (product w t) tail))
 
-weighted_push : (ws vs : List ℕ) (w v : ℕ) → length ws ≡ length vs → weighted (ws ++ w ∷ []) (vs ++ v ∷ []) ≡ bit_xor (weighted ws vs) (product w v)
+pub weighted_push : (ws vs : List ℕ) (w v : ℕ) → length ws ≡ length vs → weighted (ws ++ w ∷ []) (vs ++ v ∷ []) ≡ bit_xor (weighted ws vs) (product w v)
 unfolding weighted
 weighted_push [] [] w v e = xor_zero_r (product w v)
 weighted_push [] (y ∷ vs) w v e = absurd (omega arith)

@@ -1,6 +1,7 @@
 //! Products, inverses and weights, by values from outside.
 use crate::{inv, mul, weights};
 
+// The first two are the examples of FIPS 197, sections 4.2 and 4.2.1.
 #[test]
 fn products_of_the_standard(rt: HostRuntime) {
     for (a, b, product) in [
@@ -14,6 +15,7 @@ fn products_of_the_standard(rt: HostRuntime) {
     }
 }
 
+// No standard's example: the S-box of FIPS 197 at 0x53 rests on the last one.
 #[test]
 fn inverses(rt: HostRuntime) {
     assert_eq!(rt; inv(0), 0);
@@ -34,6 +36,7 @@ fn powers_of_three_are_all_elements_but_zero(rt: HostRuntime) {
     assert!(rt; !seen[0]);
 }
 
+// No standard's example: by hand, from the definition.
 #[test]
 fn weights_of_the_points_0_to_3_at_4(rt: HostRuntime) {
     let w = weights(&[0, 1, 2, 3], 4);

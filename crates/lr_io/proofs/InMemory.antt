@@ -1,14 +1,15 @@
 -- What the exact clauses of the source and the sink in memory give of what every source and sink promises.
 use Rattle.std.proofs.Common.{◌≡◌, ℕ, ◌<◌, ◌≤◌, min, List, [], ◌∷◌, ◌++◌, length, take, drop, Bool, true, false, Some, Result, Ok, Err, IfOk, OnErr, ap, sym, ◌∙◌, refl, inl, inr, subst, arith, IsErrOf}
 use Rattle.std.specs.Prelude.{nat_lt}
-use Rattle.std.proofs.Math.Seq.{take-length}
+use Rattle.std.proofs.Math.Seq.{take-length, take-append_seam}
+use Rattle.std.proofs.lemmas.List.{take-append-drop, length-take-le}
 use Rattle.std.proofs.lemmas.Bool.Decides.{nat_tests}
 use Rattle.lr_spec.specs.Rose.{Rose, next_count, last_count}
 use Rattle.lr_io.specs.declared.source.SourceFailed.{SourceFailed}
 use Rattle.lr_io.specs.declared.sink.SinkError.{SinkError}
 use Rattle.lr_io.specs.declared.sink.SinkError.TheVariants.{Failed, OutOfMemory}
 use Rattle.lr_io.specs.Memory.{SourceInMemory, SinkInMemory}
-use Rattle.lr_io.specs.Streams.{TakesFirst, IsAtEnd, Appends}
+use Rattle.lr_io.specs.Streams.{Takes, IsAtEnd, Appends, Keeps}
 
 count_by_test : (n : ℕ) (t : Bool) → nat_lt n last_count ≡ t → (n ≤ next_count n) × Rose n (next_count n)
 count_by_test n true e = rw e (omega arith, inl (omega arith))
@@ -19,16 +20,22 @@ count_goes_on n = count_by_test n (nat_lt n last_count) refl
 
 -- The source.
 
+take_front : (n : ℕ) (xs ys : List ℕ) → n ≤ length xs → take n (take n xs ++ ys) ≡ take n xs
+take_front n xs ys le =
+    let k : length (take n xs) ≡ n = length-take-le n xs le in
+    ap (λ (m : ℕ). take m (take n xs ++ ys)) (sym k) ∙ take-append_seam (take n xs) ys
+
 pub source_fits : (r : Result ℕ SourceFailed) (a b : ℕ) → IfOk r (λ n. n ≡ min a b) → IfOk r (λ n. n ≤ a)
 source_fits (Ok n) a b e = omega arith
 source_fits (Err x) a b e = tt
 
-pub source_takes : (r : Result ℕ SourceFailed) (old new : SourceInMemory) (before after : List ℕ) → IfOk r (λ n. n ≡ min (length before) (length old.left)) → IfOk r (λ n. new ≡ record old { left = drop n old.left; calls = next_count old.calls }) → IfOk r (λ n. after ≡ take n old.left ++ drop n before) → IfOk r (λ n. TakesFirst (Some old.left) n before after (Some new.left))
+pub source_takes : (r : Result ℕ SourceFailed) (old new : SourceInMemory) (before after : List ℕ) → IfOk r (λ n. n ≡ min (length before) (length old.left)) → IfOk r (λ n. new ≡ record old { left = drop n old.left; calls = next_count old.calls }) → IfOk r (λ n. after ≡ take n old.left ++ drop n before) → IfOk r (λ n. Takes (Some old.left) (take n after) (Some new.left))
 source_takes (Ok n) old new before after count taken given = λ xs e.
     let same : old.left ≡ xs = cc in
     let left : new.left ≡ drop n old.left = ap (λ (s : SourceInMemory). s.left) taken in
     let fits : n ≤ length old.left = omega arith in
-    subst (λ (ys : List ℕ). (n ≤ length ys) × (after ≡ take n ys ++ drop n before) × (Some new.left ≡ Some (drop n ys))) same (fits, given, ap Some left)
+    let front : take n after ≡ take n old.left = ap (take n) given ∙ take_front n old.left (drop n before) fits in
+    (new.left, rw (front, left, ← same) (sym (take-append-drop n old.left)), refl)
 source_takes (Err x) old new before after count taken given = tt
 
 pub source_ends : (r : Result ℕ SourceFailed) (left before : List ℕ) → IfOk r (λ n. n ≡ min (length before) (length left)) → IfOk r (λ n. n ≡ 0 → 0 < length before → IsAtEnd (Some left))
@@ -61,10 +68,10 @@ sink_appends (Ok n) old new bytes whole added = λ xs e.
     rw (all, ← same) (ap (λ (s : SinkInMemory). Some s.written) added)
 sink_appends (Err x) old new bytes whole added = tt
 
-pub sink_kept : (r : Result ℕ SinkError) (old new : SinkInMemory) → (IsErrOf r Failed → new ≡ record old { calls = next_count old.calls; faults = next_count old.faults }) → (IsErrOf r OutOfMemory → new ≡ record old { calls = next_count old.calls }) → OnErr r (Some new.written ≡ Some old.written)
+pub sink_kept : (r : Result ℕ SinkError) (old new : SinkInMemory) → (IsErrOf r Failed → new ≡ record old { calls = next_count old.calls; faults = next_count old.faults }) → (IsErrOf r OutOfMemory → new ≡ record old { calls = next_count old.calls }) → OnErr r (Keeps (Some old.written) (Some new.written))
 sink_kept (Ok n) old new failed no_memory = tt
-sink_kept (Err Failed) old new failed no_memory = ap (λ (s : SinkInMemory). Some s.written) (failed refl)
-sink_kept (Err OutOfMemory) old new failed no_memory = ap (λ (s : SinkInMemory). Some s.written) (no_memory refl)
+sink_kept (Err Failed) old new failed no_memory = λ xs e. ap (λ (s : SinkInMemory). Some s.written) (failed refl) ∙ e
+sink_kept (Err OutOfMemory) old new failed no_memory = λ xs e. ap (λ (s : SinkInMemory). Some s.written) (no_memory refl) ∙ e
 
 pub sink_never_falls : (r : Result ℕ SinkError) (old new : SinkInMemory) (bytes : List ℕ) → (IsErrOf r Failed → new ≡ record old { calls = next_count old.calls; faults = next_count old.faults }) → IfOk r (λ n. new ≡ record old { written = old.written ++ bytes; calls = next_count old.calls }) → (IsErrOf r OutOfMemory → new ≡ record old { calls = next_count old.calls }) → old.faults ≤ new.faults
 sink_never_falls (Ok n) old new bytes failed added no_memory = let same : new.faults ≡ old.faults = ap (λ (s : SinkInMemory). s.faults) added in omega arith

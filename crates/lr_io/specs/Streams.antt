@@ -1,11 +1,6 @@
 -- What a call does to the bytes that a source has left, and to the bytes that a sink was given.
-use Rattle.std.specs.Prelude.{◌≡◌, ℕ, ◌≤◌, List, [], ◌++◌, length, take, drop, Option, Some}
+use Rattle.std.specs.Prelude.{◌≡◌, ℕ, ◌≤◌, List, [], ◌++◌, length, take, Option, Some}
 use Rattle.lr_spec.specs.Told.{Told}
-
--- The first n of the bytes left went to the front of the buffer, which is as before behind them.
-abbrev pub TakesFirst : Option (List ℕ) → ℕ → List ℕ → List ℕ → Option (List ℕ) → Type 0
-TakesFirst left n before buffer left_after =
-    Told left (λ xs. (n ≤ length xs) × (buffer ≡ take n xs ++ drop n before) × (left_after ≡ Some (drop n xs)))
 
 -- No byte is left.
 abbrev pub IsAtEnd : Option (List ℕ) → Type 0
@@ -22,6 +17,10 @@ TakesAll left bytes left_after = Told left (λ xs. (xs ≡ bytes) × (left_after
 -- These bytes were added to what was written.
 abbrev pub Appends : Option (List ℕ) → List ℕ → Option (List ℕ) → Type 0
 Appends written bytes written_after = Told written (λ xs. written_after ≡ Some (xs ++ bytes))
+
+-- What was written is as before.
+abbrev pub Keeps : Option (List ℕ) → Option (List ℕ) → Type 0
+Keeps written written_after = Told written (λ xs. written_after ≡ Some xs)
 
 -- A front of these bytes was added to what was written.
 abbrev pub AppendsFront : Option (List ℕ) → List ℕ → Option (List ℕ) → Type 0

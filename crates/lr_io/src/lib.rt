@@ -10,7 +10,7 @@ mod memory;
 mod sink;
 mod source;
 
-pub use line::{LINE_MAX, Line};
+pub use line::{LINE_CAPACITY, Line};
 pub use memory::{MemSink, MemSource};
 pub use sink::{Sink, SinkError, write_all};
 pub use source::{ReadError, Source, SourceFailed, read_up_to};

@@ -4,14 +4,14 @@ ghost use Rattle.std.specs.Prelude.{◌≡◌, ◌+◌, ◌≤◌, ◌++◌, ◌
 use std::marker::Model;
 
 /// The most bytes of a `Line`.
-pub const LINE_MAX: usize = 256;
+pub const LINE_CAPACITY: usize = 256;
 
 /// Text of at most 256 bytes, kept in place, so that no call takes memory.
 ///
 /// A contract sees a `Line` as its bytes.
 #[derive(Drop)]
 pub struct Line {
-    bytes: [u8; LINE_MAX],
+    bytes: [u8; LINE_CAPACITY],
     len: usize,
 }
 
@@ -31,17 +31,17 @@ impl Line {
         ensures { result ≡ [] }
     {
         Line {
-            bytes: [0; LINE_MAX],
+            bytes: [0; LINE_CAPACITY],
             len: 0,
         }
     }
 
     /// This text, of at most 256 bytes.
     pub fn of(text: &[u8]) -> Line
-        requires { length text.now ≤ LINE_MAX }
+        requires { length text.now ≤ LINE_CAPACITY }
         ensures { result ≡ text.now }
     {
-        let mut bytes = [0; LINE_MAX];
+        let mut bytes = [0; LINE_CAPACITY];
         bytes[..text.len()].copy_from_slice(text);
         Line {
             bytes,
@@ -51,7 +51,7 @@ impl Line {
 
     /// Adds this text at the end. Both together have at most 256 bytes.
     pub fn push(&mut self, text: &[u8])
-        requires { length self.old + length text.now ≤ LINE_MAX }
+        requires { length self.old + length text.now ≤ LINE_CAPACITY }
         ensures { self.new ≡ self.old ++ text.now }
     {
         let end = self.len + text.len();

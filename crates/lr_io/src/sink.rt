@@ -1,7 +1,7 @@
 //! Where bytes go, and the loop that writes them all.
 ghost use Rattle.std.specs.Prelude.{◌≡◌, ◌<◌, ◌≤◌, List, ℕ, Option, length, take, IfOk, OnOk, OnErr, IsErrOf};
 ghost use Rattle.lr_spec.specs.Rose.{Rose};
-ghost use Rattle.lr_io.specs.Streams.{Appends, AppendsFront};
+ghost use Rattle.lr_io.specs.Streams.{Appends, AppendsFront, Keeps};
 
 use std::alloc::{AllocError, AllocFailed};
 
@@ -53,7 +53,7 @@ pub trait Sink {
         ensures fits { IfOk result (λ n. n ≤ length bytes.now) }
         ensures some { IfOk result (λ n. 0 < length bytes.now → 0 < n) }
         ensures appends { IfOk result (λ n. Appends (written self.old) (take n bytes.now) (written self.new)) }
-        ensures nothing { OnErr result (written self.new ≡ written self.old) }
+        ensures nothing { OnErr result (Keeps (written self.old) (written self.new)) }
         ensures never_falls { faults self.old ≤ faults self.new }
         ensures cause { IsErrOf result SinkError.Failed → Rose (faults self.old) (faults self.new) }
         ensures no_fault { IsErrOf result SinkError.OutOfMemory → faults self.new ≡ faults self.old };

@@ -1,7 +1,7 @@
 //! Where bytes come from, and the loop that reads them.
 ghost use Rattle.std.specs.Prelude.{◌≡◌, ◌+◌, ◌<◌, ◌≤◌, ◌^◌, List, ℕ, Option, length, take, IfOk, OnErr, IsErrOf};
 ghost use Rattle.lr_spec.specs.Rose.{Rose};
-ghost use Rattle.lr_io.specs.Streams.{TakesFirst, IsAtEnd, Takes, TakesAll};
+ghost use Rattle.lr_io.specs.Streams.{IsAtEnd, Takes, TakesAll};
 
 use lr_spec::OutOfMemory;
 use std::alloc::{AllocError, Global};
@@ -21,13 +21,14 @@ pub trait Source {
     /// How often the source has failed, which never falls.
     ghost faults: { Self → ℕ };
 
-    /// Moves bytes from the front of what is left to the front of the buffer, and says how many.
+    /// Moves bytes from the front of what is left to the front of the buffer, and says how many. Nothing is said
+    /// of the buffer behind them.
     ///
     /// It gives 0 for a buffer that isn't empty only where no byte is left. `SourceFailed` comes only where the
     /// count of faults rose in this call.
     fn read(&mut self, buffer: &mut [u8]) -> Result<usize, SourceFailed>
         ensures fits { IfOk result (λ n. n ≤ length buffer.old) }
-        ensures takes { IfOk result (λ n. TakesFirst (left self.old) n buffer.old buffer.new (left self.new)) }
+        ensures takes { IfOk result (λ n. Takes (left self.old) (take n buffer.new) (left self.new)) }
         ensures end { IfOk result (λ n. n ≡ 0 → 0 < length buffer.old → IsAtEnd (left self.old)) }
         ensures never_falls { faults self.old ≤ faults self.new }
         ensures cause { OnErr result (Rose (faults self.old) (faults self.new)) };

@@ -1,3 +1,5 @@
+//! Sources and sinks in memory, each call failing in turn.
+
 use crate::{Line, MemSink, MemSource, ReadError, Sink, SinkError, Source, read_up_to, write_all};
 use std::alloc::{AllocError, Global};
 use std::test::Fail;

@@ -1,1 +1,3 @@
 pub mod Padded
+pub mod Chunks
+pub mod Spans

@@ -7,6 +7,12 @@
 ghost use Rattle.std.specs.Prelude.{◌≡◌, ◌+◌, ◌*◌, ◌%◌, ◌<◌, ◌≤◌};
 ghost use Rattle.lr_layout.specs.Padded.{padded_length, count_of_chunks};
 
+mod span;
+#[cfg(test)]
+mod tests;
+
+pub use span::{Span, span_of};
+
 /// Bytes of a page.
 pub const PAGE: u64 = 4096;
 
@@ -18,23 +24,20 @@ pub const RAW_LIMIT: u64 = 10_737_418_240;
 
 /// Bytes of the padded bytes of an image with so many raw bytes.
 pub fn padded_len(raw: u64) -> u64
-    requires { raw ≤ RAW_LIMIT }
+    requires { raw ≤ 10737418240 }
     ensures padded { result ≡ padded_length raw }
-    ensures whole { result % PAGE ≡ 0 }
-    ensures least { (raw ≤ result) × (result < raw + PAGE) }
+    ensures whole { result % 4096 ≡ 0 }
+    ensures least { (raw ≤ result) × (result < raw + 4096) }
 {
     raw.div_ceil(PAGE) * PAGE
 }
 
 /// Chunks that hold the padded bytes of an image with so many raw bytes: none for none.
 pub fn chunk_count(raw: u64) -> u32
-    requires { raw ≤ RAW_LIMIT }
+    requires { raw ≤ 10737418240 }
     ensures count { result ≡ count_of_chunks raw }
-    ensures enough { padded_length raw ≤ result * CHUNK }
-    ensures least { result * CHUNK < padded_length raw + CHUNK }
+    ensures enough { padded_length raw ≤ result * 524288 }
+    ensures least { result * 524288 < padded_length raw + 524288 }
 {
     padded_len(raw).div_ceil(CHUNK) as u32
 }
-
-#[cfg(test)]
-mod tests;

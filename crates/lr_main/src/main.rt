@@ -5,6 +5,8 @@
 #![tactic(auto)]
 
 mod edge;
+#[cfg(test)]
+mod tests;
 
 use edge::{StdSink, StdSource};
 use lr_top::{Outcome, top};

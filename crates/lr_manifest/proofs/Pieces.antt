@@ -8,7 +8,7 @@ use Rattle.std.proofs.lemmas.Nat.{be_bytes_2, be_bytes_4, be_bytes_8}
 use Rattle.std.proofs.lemmas.Grind.{flat_map-append}
 use Rattle.std.proofs.Math.Seq.{take-add}
 use Rattle.lr_manifest.specs.declared.name.Name.{Name}
-use Rattle.lr_manifest.specs.Manifest.{IsSound, head_text, IsManifest, Spells, Fields, name_bytes, itself}
+use Rattle.lr_manifest.specs.Manifest.{HasNoFault, head_text, IsManifest, Spells, ManifestFields, name_bytes, itself}
 
 abbrev AreSmall : List ℕ → Type 0
 AreSmall b = (i : ℕ) → get_or b i 0 < 256
@@ -49,7 +49,7 @@ joined : (b a0 a4 a6 a8 a16 a20 d4 d6 d8 d16 d20 d24 : List ℕ) → b ≡ a0 ++
     → b ≡ (a0 ++ (a4 ++ (a6 ++ (a8 ++ (a16 ++ a20))))) ++ d24
 joined b a0 a4 a6 a8 a16 a20 d4 d6 d8 d16 d20 d24 e0 e4 e6 e8 e16 e20 = rw (e0, e4, e6, e8, e16, e20) (simp append_assoc)
 
-pub head_of : (b : List ℕ) (count : ℕ) → AreSmall b → IsSound b → from_be_bytes w32 (drop 20 b) ≡ count
+pub head_of : (b : List ℕ) (count : ℕ) → AreSmall b → HasNoFault b → from_be_bytes w32 (drop 20 b) ≡ count
     → b ≡ head_text (from_be_bytes w64 (drop 8 b)) count ++ drop 24 b
 head_of b count h s ec =
     let p0 : b ≡ codes "LRMF" ++ drop 4 b = sym (take-append-drop 4 b) ∙ ap (λ (x : List ℕ). x ++ drop 4 b) s.magic in

@@ -7,7 +7,7 @@ use Rattle.std.proofs.lemmas.Bool.{le-ltb}
 use Rattle.std.proofs.lemmas.Nat.{from_be_bytes-to_be_bytes_4, from_be_bytes-to_be_bytes_8}
 use Rattle.std.proofs.Math.Seq.{take-append_seam, drop-append_seam}
 use Rattle.lr_manifest.specs.declared.name.Name.{Name}
-use Rattle.lr_manifest.specs.Manifest.{Fields, IsManifest, Spells, spelling, clear_text, head_text, chunk_count, first_fault, name_bytes, itself, is_short, lacks_magic, is_other_version, has_wrong_fields, has_other_length}
+use Rattle.lr_manifest.specs.Manifest.{ManifestFields, IsManifest, Spells, spelling, clear_text, head_text, chunk_count, first_fault, name_bytes, itself, is_short, lacks_magic, is_other_version, has_wrong_fields, has_other_length}
 use Rattle.lr_manifest.proofs.Faults.{by_tests}
 
 pub rows_long : {X : Type 0} (f : X → List ℕ) (xs : List X) → AllByRecursion (λ x. length (f x) ≡ 32) xs → length (flat_map f xs) ≡ 32 * length xs
@@ -27,11 +27,11 @@ name_of_bytes x y e =
     subst P e (λ h. ap (λ (q : length x.bytes ≡ 32). record { bytes = x.bytes; long = q }) (Coded-set coded_ℕ _ _ x.long h)) y.long
 
 -- each name has 32 bytes
-long_names : (names : List Name) → AllByRecursion (λ n. length n.bytes ≡ 32) names
+pub long_names : (names : List Name) → AllByRecursion (λ n. length n.bytes ≡ 32) names
 long_names [] = tt
 long_names (n ∷ names) = (n.long, long_names names)
 
-same_rows : {X : Type 0} (f : X → List ℕ) → ((x y : X) → f x ≡ f y → x ≡ y) → (xs ys : List X) → AllByRecursion (λ x. length (f x) ≡ 32) xs
+pub same_rows : {X : Type 0} (f : X → List ℕ) → ((x y : X) → f x ≡ f y → x ≡ y) → (xs ys : List X) → AllByRecursion (λ x. length (f x) ≡ 32) xs
     → AllByRecursion (λ x. length (f x) ≡ 32) ys → length xs ≡ length ys → flat_map f xs ≡ flat_map f ys → xs ≡ ys
 same_rows f inj [] [] h k len e = refl
 same_rows f inj [] (y ∷ ys) h k len e = absurd (omega arith)
@@ -42,10 +42,10 @@ same_rows f inj (x ∷ xs) (y ∷ ys) h k len e =
     let others : xs ≡ ys = same_rows f inj xs ys h.1 k.1 (omega arith) both.1 in
     λ i. first i ∷ others i
 
-count_small : (raw : ℕ) → raw ≤ 10737418240 → chunk_count raw ≤ 20480
+pub count_small : (raw : ℕ) → raw ≤ 10737418240 → chunk_count raw ≤ 20480
 count_small raw le = omega arith
 
-module _ (m : Fields) (ok : IsManifest m) where
+module _ (m : ManifestFields) (ok : IsManifest m) where
   raw_read : from_be_bytes w64 (drop 8 (spelling m)) ≡ m.raw_len
   raw_read = from_be_bytes-to_be_bytes_8 m.raw_len (omega (arith, ok.raw_len))
 
@@ -76,10 +76,10 @@ module _ (m : Fields) (ok : IsManifest m) where
       eq_true _ _ (long_read ∙ ap (λ (n : ℕ). 52 + 64 * n) (sym count_read)) in
       by_tests (spelling m) false false false false false short refl refl (λ i. over i || not (count i)) (ap not whole)
 
-pub complete : (b : List ℕ) (m : Fields) → Spells b m → first_fault b ≡ None
+pub complete : (b : List ℕ) (m : ManifestFields) → Spells b m → first_fault b ≡ None
 complete b m h = ap first_fault h.1 ∙ no_fault m h.0
 
-pub unique : (b : List ℕ) (m n : Fields) → Spells b m → Spells b n → m ≡ n
+pub unique : (b : List ℕ) (m n : ManifestFields) → Spells b m → Spells b n → m ≡ n
 unique b m n h k =
     let same : spelling m ≡ spelling n = sym h.1 ∙ k.1 in
     let raw : m.raw_len ≡ n.raw_len = sym (raw_read m h.0) ∙ ap (λ (x : List ℕ). from_be_bytes w64 (drop 8 x)) same ∙ raw_read n k.0 in

@@ -4,10 +4,10 @@ use Rattle.std.specs.Int.{w16, w32, w64, to_be_bytes, from_be_bytes}
 use Rattle.std.specs.List.{flat_map, AllByRecursion}
 use Rattle.lr_manifest.specs.declared.name.Name.{Name}
 use Rattle.lr_manifest.specs.declared.error.ManifestError.{ManifestError}
-use Rattle.lr_manifest.specs.declared.error.ManifestError.TheVariants.{Truncated, Magic, Version, Fields as WrongFields, Length, OutOfMemory}
+use Rattle.lr_manifest.specs.declared.error.ManifestError.TheVariants.{Truncated, Magic, Version, Fields, Length, OutOfMemory}
 
 -- what a manifest says
-pub record Fields : Type 0 where
+pub record ManifestFields : Type 0 where
   pub raw_len : ℕ  -- bytes of the image
   pub names : List Name
   pub nonce : List ℕ
@@ -31,7 +31,7 @@ abbrev pub AreKeys : List (List ℕ) → Type 0
 AreKeys keys = AllByRecursion (λ k. length k ≡ 32) keys
 
 -- each field is within its rule
-pub record IsManifest (m : Fields) : Type 0 where
+pub record IsManifest (m : ManifestFields) : Type 0 where
   pub raw_len : m.raw_len ≤ 10737418240
   pub count : length m.names ≡ chunk_count m.raw_len
   pub keys : length m.sealed ≡ length m.names
@@ -49,11 +49,11 @@ abbrev pub clear_text : ℕ → List Name → List ℕ
 clear_text raw names = head_text raw (length names) ++ flat_map name_bytes names
 
 -- the spelling of a manifest: what is clear, the nonce, the sealed keys, the tag
-abbrev pub spelling : Fields → List ℕ
+abbrev pub spelling : ManifestFields → List ℕ
 spelling m = clear_text m.raw_len m.names ++ (m.nonce ++ (flat_map itself m.sealed ++ m.tag))
 
 -- These bytes are a manifest's spelling, and each of its fields is within its rule.
-abbrev pub Spells : List ℕ → Fields → Type 0
+abbrev pub Spells : List ℕ → ManifestFields → Type 0
 Spells bytes m = IsManifest m × (bytes ≡ spelling m)
 
 -- there are fewer bytes than the head has
@@ -87,7 +87,7 @@ first_of ((false, e) ∷ faults) = first_of faults
 
 -- the tests in their order, each with its fault
 abbrev pub faults : List ℕ → List (Bool × ManifestError)
-faults b = (is_short b, Truncated) ∷ (lacks_magic b, Magic) ∷ (is_other_version b, Version) ∷ (has_wrong_fields b, WrongFields) ∷ (has_other_length b, Length) ∷ []
+faults b = (is_short b, Truncated) ∷ (lacks_magic b, Magic) ∷ (is_other_version b, Version) ∷ (has_wrong_fields b, Fields) ∷ (has_other_length b, Length) ∷ []
 
 -- what is wrong with bytes that spell no manifest
 unfoldable pub first_fault : List ℕ → Option ManifestError
@@ -99,7 +99,7 @@ Fails OutOfMemory fault = Unit {0}
 Fails e fault = fault ≡ Some e
 
 -- bytes without a fault, by position
-pub record IsSound (b : List ℕ) : Type 0 where
+pub record HasNoFault (b : List ℕ) : Type 0 where
   pub long : 24 ≤ length b
   pub magic : take 4 b ≡ codes "LRMF"
   pub version : from_be_bytes w16 (drop 4 b) ≡ 1

@@ -1,7 +1,7 @@
 //! The value of a manifest.
 ghost use Rattle.std.specs.Prelude.{◌≡◌, ◌≤◌, length, drop, IfOk};
 ghost use Rattle.std.specs.Int.{w32, w64, from_be_bytes};
-ghost use Rattle.lr_manifest.specs.Manifest.{Fields, IsManifest, Spells};
+ghost use Rattle.lr_manifest.specs.Manifest.{ManifestFields, IsManifest, Spells};
 
 use crate::name::Name;
 use byteorder::{BigEndian, ByteOrder};
@@ -21,9 +21,9 @@ pub struct Manifest {
 }
 
 impl Model for Manifest {
-    ghost use Rattle.lr_manifest.specs.Manifest.{Fields, IsManifest};
+    ghost use Rattle.lr_manifest.specs.Manifest.{ManifestFields, IsManifest};
 
-    ghost Value = { Fields };
+    ghost Value = { ManifestFields };
 
     ghost view = { λ m. record { raw_len = m.raw_len; names = m.names.items; nonce = m.nonce; sealed = m.sealed.items; tag = m.tag } };
 

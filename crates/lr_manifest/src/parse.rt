@@ -2,27 +2,18 @@
 ghost use Rattle.std.specs.Prelude.{◌≡◌, ◌≤◌, ◌<◌, ◌*◌, ◌+◌, ◌++◌, ℕ, Bool, true, false, not, nat_lt, ◌||◌, ◌==◌, Option, Some, None, List, length, take, drop, IfOk, IfNone, MatchResult};
 ghost use Rattle.std.specs.Int.{w16, w32, w64, from_be_bytes};
 ghost use Rattle.std.specs.List.{flat_map};
-ghost use Rattle.lr_manifest.specs.Manifest.{Fields, IsManifest, Spells, chunk_count, first_fault, IsSound, is_short, lacks_magic, is_other_version, has_wrong_fields, has_other_length, Fails, AreKeys, itself, name_bytes};
+ghost use Rattle.lr_manifest.specs.Manifest.{ManifestFields, IsManifest, Spells, chunk_count, first_fault, HasNoFault, is_short, lacks_magic, is_other_version, has_wrong_fields, has_other_length, Fails, AreKeys, itself, name_bytes};
 ghost use Rattle.lr_manifest.specs.declared.error.ManifestError.TheVariants.{OutOfMemory as NoMemory};
 
 use crate::error::ManifestError;
 use crate::manifest::Manifest;
-use crate::name::Name;
+use crate::row::{cut_rows, front};
 use byteorder::{BigEndian, ByteOrder};
-use std::alloc::{AllocError, Global};
+use lr_spec::OutOfMemory;
+use std::alloc::Global;
 
 // The most raw bytes of an image.
 const RAW_LIMIT: u64 = 10_737_418_240;
-
-// The first N bytes.
-fn front<const N: usize>(bytes: &[u8]) -> [u8; N]
-    requires { N ≤ length bytes.now }
-    ensures { result ≡ take N bytes.now }
-{
-    let mut out = [0u8; N];
-    out.copy_from_slice(&bytes[..N]);
-    out
-}
 
 fn u16_at(bytes: &[u8], at: usize) -> u16
     requires { at + 2 ≤ length bytes.now }
@@ -103,7 +94,7 @@ fn has_other_length(bytes: &[u8]) -> bool
 // The first fault, if there is one.
 fn fault_of(bytes: &[u8]) -> Option<ManifestError>
     ensures first { result ≡ first_fault bytes.now }
-    ensures sound { IfNone result (IsSound bytes.now) }
+    ensures sound { IfNone result (HasNoFault bytes.now) }
     ensures long { IfNone result (24 ≤ length bytes.now) }
     ensures whole { IfNone result (length bytes.now ≡ 52 + 64 * from_be_bytes w32 (drop 20 bytes.now)) }
 {
@@ -125,33 +116,9 @@ fn fault_of(bytes: &[u8]) -> Option<ManifestError>
     None
 }
 
-fn names_of(alloc: Global, bytes: &[u8], count: usize) -> Result<Vec<Name>, AllocError>
-    requires { length bytes.now ≡ 32 * count }
-    ensures { IfOk result (λ v. (flat_map name_bytes v.items ≡ bytes.now) × (length v.items ≡ count)) }
-{
-    let mut names = Vec::with_capacity(alloc, count)?;
-    for i in 0..count {
-        names.push(Name {
-            bytes: front(&bytes[32 * i..]),
-        })?;
-    }
-    Ok(names)
-}
-
-fn keys_of(alloc: Global, bytes: &[u8], count: usize) -> Result<Vec<[u8; 32]>, AllocError>
-    requires { length bytes.now ≡ 32 * count }
-    ensures { IfOk result (λ v. (flat_map itself v.items ≡ bytes.now) × (length v.items ≡ count) × AreKeys v.items) }
-{
-    let mut keys: Vec<[u8; 32]> = Vec::with_capacity(alloc, count)?;
-    for i in 0..count {
-        keys.push(front(&bytes[32 * i..]))?;
-    }
-    Ok(keys)
-}
-
 // The fields of bytes without a fault.
-fn fields_of(alloc: Global, bytes: &[u8]) -> Result<Manifest, AllocError>
-    requires sound { IsSound bytes.now }
+fn fields_of(alloc: Global, bytes: &[u8]) -> Result<Manifest, OutOfMemory>
+    requires sound { HasNoFault bytes.now }
     requires long { 24 ≤ length bytes.now }
     requires whole { length bytes.now ≡ 52 + 64 * from_be_bytes w32 (drop 20 bytes.now) }
     ensures { IfOk result (λ m. Spells bytes.now m) }
@@ -159,10 +126,10 @@ fn fields_of(alloc: Global, bytes: &[u8]) -> Result<Manifest, AllocError>
     let count = u32_at(bytes, 20) as usize;
     let raw_len = u64_at(bytes, 8);
     let (clear, sealed) = bytes.split_at(24 + 32 * count);
-    let names = names_of(alloc, &clear[24..], count)?;
+    let names = cut_rows(alloc, &clear[24..], count)?;
     let nonce = front(sealed);
     let (keys, tag) = sealed[12..].split_at(32 * count);
-    let keys = keys_of(alloc, keys, count)?;
+    let keys = cut_rows(alloc, keys, count)?;
     Ok(Manifest::of(raw_len, names, nonce, keys, front(tag)))
 }
 
@@ -171,7 +138,7 @@ impl Manifest {
     #[tactic(auto, using(crate::proofs::Unique::complete))]
     pub fn parse(alloc: Global, bytes: &[u8]) -> Result<Manifest, ManifestError>
         ensures found { IfOk result (λ m. Spells bytes.now m) }
-        ensures only { (m : Fields) → Spells bytes.now m → MatchResult result (λ n. n ≡ m) (λ e. e ≡ NoMemory) }
+        ensures only { (m : ManifestFields) → Spells bytes.now m → MatchResult result (λ n. n ≡ m) (λ e. e ≡ NoMemory) }
         ensures fault { MatchResult result (λ _. first_fault bytes.now ≡ None) (λ e. Fails e (first_fault bytes.now)) }
     {
         if let Some(fault) = fault_of(bytes) {

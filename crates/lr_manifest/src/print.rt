@@ -2,41 +2,13 @@
 ghost use Rattle.std.specs.Prelude.{◌≡◌, ◌≤◌, ◌++◌, length, IfOk, OnOk};
 ghost use Rattle.std.specs.List.{flat_map};
 ghost use Rattle.std.specs.Int.{w16, w32, w64, to_be_bytes};
-ghost use Rattle.lr_manifest.specs.Manifest.{Fields, IsManifest, Spells, clear_text, head_text, spelling, itself, name_bytes};
+ghost use Rattle.lr_manifest.specs.Manifest.{ManifestFields, IsManifest, Spells, clear_text, head_text, spelling, itself, name_bytes};
 
 use crate::manifest::Manifest;
 use crate::name::Name;
+use crate::row::join_rows;
 use lr_spec::OutOfMemory;
-use std::alloc::{AllocError, Global};
-
-// A name's bytes at the end.
-fn put_name(out: &mut Vec<u8>, name: &Name) -> Result<(), AllocError>
-    ensures { OnOk result (out.new.items ≡ out.old.items ++ name_bytes name.now) }
-{
-    out.extend_from_slice(name.bytes.as_slice())
-}
-
-// The names, joined.
-fn names_text(alloc: Global, names: &[Name]) -> Result<Vec<u8>, AllocError>
-    ensures { IfOk result (λ v. v.items ≡ flat_map name_bytes names.now) }
-{
-    let mut out = Vec::new(alloc);
-    for name in names {
-        put_name(&mut out, name)?;
-    }
-    Ok(out)
-}
-
-// The keys, joined.
-fn keys_text(alloc: Global, keys: &[[u8; 32]]) -> Result<Vec<u8>, AllocError>
-    ensures { IfOk result (λ v. v.items ≡ flat_map itself keys.now) }
-{
-    let mut out = Vec::new(alloc);
-    for key in keys {
-        out.extend_from_slice(key.as_slice())?;
-    }
-    Ok(out)
-}
+use std::alloc::Global;
 
 // The 24 bytes in front.
 fn head(raw_len: u64, count: u32) -> [u8; 24]
@@ -58,7 +30,7 @@ pub fn clear_text(alloc: Global, raw_len: u64, names: &[Name]) -> Result<Vec<u8>
 {
     let mut out = Vec::new(alloc);
     out.extend_from_slice(head(raw_len, names.len() as u32).as_slice())?;
-    out.extend_from_slice(&names_text(alloc, names)?)?;
+    out.extend_from_slice(&join_rows(alloc, names)?)?;
     Ok(out)
 }
 
@@ -76,7 +48,7 @@ impl Manifest {
     {
         let mut out = self.clear_text(alloc)?;
         out.extend_from_slice(self.nonce().as_slice())?;
-        out.extend_from_slice(&keys_text(alloc, self.sealed())?)?;
+        out.extend_from_slice(&join_rows(alloc, self.sealed())?)?;
         out.extend_from_slice(self.tag().as_slice())?;
         Ok(out)
     }

@@ -1,3 +1,4 @@
+//! A manifest and its faults, and chunks under their names.
 use crate::{CHUNK, Chunk, ChunkKey, Manifest, ManifestError, Name, TenantKey};
 use std::alloc::{AllocError, Global};
 use std::test::Fail;

@@ -1,1 +1,3 @@
-pub mod Lists
+mod Lists
+mod Ordered
+pub mod Public

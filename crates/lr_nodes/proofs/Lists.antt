@@ -7,6 +7,7 @@ use Rattle.std.proofs.lemmas.List.Folds.{find_at}
 use Rattle.std.proofs.lemmas.List.{length-map, drop_all, append-nil, take-append-drop, take-set, drop-set}
 use Rattle.std.proofs.lemmas.Grind.{common_steps}
 use Rattle.lr_object.specs.Finds.{without_first}
+use Rattle.lr_object.proofs.Found.{position_or_len-map}
 use Rattle.lr_nodes.specs.Stripes.{with_first}
 
 past_end : {X : Type 0} (xs : List X) (i : ℕ) → slice_get xs i ≡ None → length xs ≤ i
@@ -22,10 +23,6 @@ pub without_first-none : {X : Type 0} (p : X → Bool) (xs : List X) → find p 
 without_first-none p xs h =
     let past : length xs ≤ position_or_len p xs = past_end xs (position_or_len p xs) (sym (find_at p xs) ∙ h) in
     (λ k. take_all (position_or_len p xs) xs past k ++ drop_all (position_or_len p xs + 1) xs (omega arith) k) ∙ append-nil xs
-
-position_or_len-map : {X Y : Type 0} (p : Y → Bool) (f : X → Y) (xs : List X) → position_or_len p (map f xs) ≡ position_or_len (λ x. p (f x)) xs
-position_or_len-map p f [] = refl
-position_or_len-map p f (x ∷ xs) = ap (λ n. cond (not (p (f x))) (1 + n) 0) (position_or_len-map p f xs)
 
 by_test : (b : Bool) (n m : ℕ) → n ≡ m → IfSome (cond b (Some n) None) (λ i. i ≡ m)
 by_test true n m e = e

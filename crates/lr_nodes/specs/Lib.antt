@@ -1,3 +1,4 @@
-pub mod Stripes
 pub mod Machine
+pub mod Orderly
 pub mod Served
+pub mod Stripes

@@ -1,5 +1,5 @@
-//! Places in a list of stripes, and its edits. The most recent stripe stands first.
-ghost use Rattle.std.specs.Prelude.{◌≡◌, ◌<◌, ◌≤◌, ◌∷◌, Some, IfOk, IfSome, length, map, position, take, slice_get, slice_set, slice_index, bit_xor, remove, vec_len, vec_capacity};
+//! Places in a list of stripes, and the edits that stripes alone have.
+ghost use Rattle.std.specs.Prelude.{◌≡◌, ◌<◌, ◌≤◌, IfOk, IfSome, map, position, slice_set, slice_index, bit_xor, remove, vec_len, vec_capacity};
 ghost use Rattle.std.specs.Arc.{arc_value};
 ghost use Rattle.std.specs.List.{position_or_len};
 ghost use Rattle.lr_object.specs.Finds.{FindsAt, without_first};
@@ -8,7 +8,7 @@ ghost use Rattle.lr_nodes.specs.Stripes.{is_at, flipped_at};
 use lr_manifest::Name;
 use lr_spec::OutOfMemory;
 use lr_stripe::{Stripe, StripeBytes};
-use std::alloc::{AllocError, Global};
+use std::alloc::Global;
 use std::sync::Arc;
 
 fn is_at(stripe: &Stripe, name: &Name, index: u8) -> bool
@@ -31,24 +31,6 @@ pub(crate) fn place_of(stripes: &[Arc<Stripe>], name: &Name, index: u8) -> Optio
     position_of(stripes, name, index)
 }
 
-// One more owner of the stripe at a place.
-pub(crate) fn owner_of(stripes: &[Arc<Stripe>], at: usize) -> Result<Arc<Stripe>, AllocError>
-    requires { at < length stripes.now }
-    ensures { IfOk result (λ s. slice_get (map arc_value stripes.now) at ≡ Some (arc_value s)) }
-{
-    Arc::try_clone(&stripes[at])
-}
-
-// The stripe at a place goes first.
-pub(crate) fn raise(stripes: &mut Vec<Arc<Stripe>>, at: usize)
-    requires { at < vec_len stripes.old }
-    ensures stripes { (s : _) × (slice_get (map arc_value stripes.old.items) at ≡ Some s) × (map arc_value stripes.new.items ≡ s ∷ remove (map arc_value stripes.old.items) at) }
-    ensures len { vec_len stripes.new ≡ vec_len stripes.old }
-{
-    let stripe = stripes.remove(at);
-    let _ = stripes.insert(0, stripe);
-}
-
 // The stripe at a place goes.
 pub(crate) fn take_out(stripes: &mut Vec<Arc<Stripe>>, at: usize)
     requires { at < vec_len stripes.old }
@@ -57,20 +39,6 @@ pub(crate) fn take_out(stripes: &mut Vec<Arc<Stripe>>, at: usize)
     ensures room { vec_capacity stripes.new ≡ vec_capacity stripes.old }
 {
     let _gone = stripes.remove(at);
-}
-
-// A stripe goes first, and the last one goes where there are as many as can be.
-pub(crate) fn put_first(stripes: &mut Vec<Arc<Stripe>>, capacity: usize, stripe: Arc<Stripe>)
-    requires some { 0 < capacity }
-    requires within { vec_len stripes.old ≤ capacity }
-    requires room { vec_len stripes.old < vec_capacity stripes.old }
-    ensures stripes { map arc_value stripes.new.items ≡ take capacity (arc_value stripe ∷ map arc_value stripes.old.items) }
-    ensures len { vec_len stripes.new ≤ capacity }
-{
-    if stripes.len() >= capacity {
-        let _last = stripes.pop();
-    }
-    let _ = stripes.insert(0, stripe);
 }
 
 // The first stripe of this name and index goes, where there is one.

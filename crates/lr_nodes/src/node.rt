@@ -2,11 +2,9 @@
 ghost use Rattle.std.specs.Prelude.{◌≡◌, ◌<◌, [], IfOk, length};
 
 use crate::call::{NodeCall, NodeReply};
-use crate::list::{
-    flipped, owner_of, place_of, put_at, put_first, raise, take_out, take_out_first,
-};
+use crate::list::{flipped, place_of, put_at, take_out, take_out_first};
 use lr_manifest::Name;
-use lr_object::{Entry, Object};
+use lr_object::{Entry, Object, owner_of, put_first, raise};
 use lr_spec::OutOfMemory;
 use lr_stripe::Stripe;
 use std::alloc::Global;
@@ -39,7 +37,7 @@ impl Model for Node {
 impl Node {
     ghost use Rattle.lr_nodes.specs.declared.call.NodeCall.TheVariants.{Get, Put, Drop, Flip, Lose};
     ghost use Rattle.lr_nodes.specs.Machine.{run, NodeStep};
-    ghost use Rattle.lr_nodes.specs.Served.{Seen, Keeps, Misses};
+    ghost use Rattle.lr_nodes.specs.Served.{Seen, Serves, Misses};
 
     /// An empty node for so many stripes, at least one.
     pub fn new(alloc: Global, capacity: u32) -> Result<Node, OutOfMemory>
@@ -55,7 +53,7 @@ impl Node {
 
     fn get(&mut self, caller: u32, name: Name, index: u8) -> NodeReply
         ensures answered { NodeStep (run self.old.capacity self.old.log) (Get name index) result }
-        ensures kept { Keeps self.old self.new caller (Get name index) result }
+        ensures kept { Serves self.old self.new caller (Get name index) result }
     {
         let Some(at) = place_of(self.stripes.as_slice(), &name, index) else {
             return self.absent(caller, NodeCall::Get { name, index });
@@ -80,7 +78,7 @@ impl Node {
 
     fn put(&mut self, caller: u32, stripe: Arc<Stripe>) -> NodeReply
         ensures answered { NodeStep (run self.old.capacity self.old.log) (Put stripe) result }
-        ensures kept { Keeps self.old self.new caller (Put stripe) result }
+        ensures kept { Serves self.old self.new caller (Put stripe) result }
     {
         let Ok(kept) = Arc::try_clone(&stripe) else {
             return NodeReply::OutOfMemory;
@@ -100,7 +98,7 @@ impl Node {
 
     fn drop_stripe(&mut self, caller: u32, name: Name, index: u8) -> NodeReply
         ensures answered { NodeStep (run self.old.capacity self.old.log) (Drop name index) result }
-        ensures kept { Keeps self.old self.new caller (Drop name index) result }
+        ensures kept { Serves self.old self.new caller (Drop name index) result }
     {
         let Some(at) = place_of(self.stripes.as_slice(), &name, index) else {
             return self.absent(caller, NodeCall::Drop { name, index });
@@ -119,7 +117,7 @@ impl Node {
 
     fn flip(&mut self, alloc: Global, caller: u32, name: Name, index: u8, at: u32) -> NodeReply
         ensures answered { NodeStep (run self.old.capacity self.old.log) (Flip name index at) result }
-        ensures kept { Keeps self.old self.new caller (Flip name index at) result }
+        ensures kept { Serves self.old self.new caller (Flip name index at) result }
     {
         let Some(place) = place_of(self.stripes.as_slice(), &name, index) else {
             return self.absent(caller, NodeCall::Flip { name, index, at });
@@ -141,7 +139,7 @@ impl Node {
 
     fn lose(&mut self, caller: u32) -> NodeReply
         ensures answered { NodeStep (run self.old.capacity self.old.log) Lose result }
-        ensures kept { Keeps self.old self.new caller Lose result }
+        ensures kept { Serves self.old self.new caller Lose result }
     {
         if self.log.reserve(1).is_err() {
             return NodeReply::OutOfMemory;
@@ -160,7 +158,7 @@ impl Node {
     fn absent(&mut self, caller: u32, call: NodeCall) -> NodeReply
         requires { Misses (run self.old.capacity self.old.log) call }
         ensures answered { NodeStep (run self.old.capacity self.old.log) call result }
-        ensures kept { Keeps self.old self.new caller call result }
+        ensures kept { Serves self.old self.new caller call result }
     {
         if self.log.reserve(1).is_err() {
             return NodeReply::OutOfMemory;
@@ -171,6 +169,19 @@ impl Node {
             reply: NodeReply::Absent,
         });
         NodeReply::Absent
+    }
+}
+
+#[cfg(test)]
+impl Node {
+    // The index and the first byte of each stripe, the most recent one first.
+    pub(crate) fn held(&self, alloc: Global) -> Result<Vec<(u8, u8)>, OutOfMemory> {
+        let mut held = Vec::new(alloc);
+        for stripe in &self.stripes {
+            let first = stripe.bytes.as_slice().first().copied();
+            held.push((stripe.index, first.unwrap_or(0)))?;
+        }
+        Ok(held)
     }
 }
 

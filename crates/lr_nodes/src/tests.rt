@@ -1,8 +1,11 @@
-ghost use Rattle.std.specs.Prelude.{◌≡◌};
+//! A node's list after each call, and where stripes stand.
+ghost use Rattle.std.specs.Prelude.{◌≡◌, IfOk};
+ghost use Rattle.lr_nodes.specs.Machine.{May};
 
 use crate::{Node, NodeCall, NodeReply, place};
 use lr_manifest::Name;
 use lr_object::Object;
+use lr_spec::OutOfMemory;
 use lr_stripe::{Stripe, StripeBytes};
 use std::alloc::Global;
 use std::sync::Arc;
@@ -19,86 +22,132 @@ fn serve<S: Object>(alloc: Global, object: &mut S, caller: u32, call: S::Call) -
 
 const NAME: Name = Name { bytes: [7; 32] };
 
-fn put(alloc: Global, node: &mut Node, index: u8, byte: u8) -> NodeReply {
-    let Ok(bytes) = vec![in alloc; byte, byte] else {
-        return NodeReply::OutOfMemory;
-    };
+// A call on the stripe of an index.
+#[derive(Clone, Copy)]
+enum Step {
+    // With this byte twice.
+    Put(u8, u8),
+    Get(u8),
+    Drop(u8),
+    Flip(u8, u8),
+    Lose,
+}
+
+fn stripe_of(alloc: Global, index: u8, byte: u8) -> Result<Arc<Stripe>, OutOfMemory> {
     let stripe = Stripe {
         name: NAME,
         index,
-        bytes: StripeBytes::of(bytes),
+        bytes: StripeBytes::of(vec![in alloc; byte, byte]?),
         digest: [0; 32],
     };
-    match Arc::new(alloc, stripe) {
-        Ok(stripe) => serve(alloc, node, 1, NodeCall::Put { stripe }),
-        Err(_) => NodeReply::OutOfMemory,
-    }
+    Ok(Arc::new(alloc, stripe)?)
 }
 
-// The first byte of a stripe, where the node has it.
-fn first_byte(alloc: Global, node: &mut Node, index: u8) -> Option<u8> {
-    match serve(alloc, node, 1, NodeCall::Get { name: NAME, index }) {
-        NodeReply::Found(stripe) => stripe.bytes.as_slice().first().copied(),
-        _ => None,
+fn call_of(alloc: Global, step: Step) -> Result<NodeCall, OutOfMemory>
+    ensures { IfOk result May }
+{
+    Ok(match step {
+        Step::Put(index, byte) => NodeCall::Put {
+            stripe: stripe_of(alloc, index, byte)?,
+        },
+        Step::Get(index) => NodeCall::Get { name: NAME, index },
+        Step::Drop(index) => NodeCall::Drop { name: NAME, index },
+        Step::Flip(index, at) => NodeCall::Flip {
+            name: NAME,
+            index,
+            at: u32::from(at),
+        },
+        Step::Lose => NodeCall::Lose,
+    })
+}
+
+fn kind_of(reply: &NodeReply) -> &'static str {
+    match reply {
+        NodeReply::Found(_) => "found",
+        NodeReply::Absent => "absent",
+        NodeReply::Kept => "kept",
+        NodeReply::Dropped => "dropped",
+        NodeReply::Flipped => "flipped",
+        NodeReply::Lost(2) => "lost 2",
+        NodeReply::Lost(_) => "lost",
+        NodeReply::OutOfMemory => "memory",
     }
 }
 
 #[test]
-fn the_most_recent_stripes_are_kept(rt: HostRuntime) -> Result<(), Fail> {
+fn each_call_leaves_its_list(rt: HostRuntime) -> Result<(), Fail> {
     let alloc = rt.alloc();
-    let mut node = Node::new(alloc, 2)?;
-    assert!(rt; matches!(put(alloc, &mut node, 0, 10), NodeReply::Kept));
-    assert!(rt; matches!(put(alloc, &mut node, 1, 11), NodeReply::Kept));
-    // In place of the stripe of this index: none is dropped.
-    assert!(rt; matches!(put(alloc, &mut node, 0, 20), NodeReply::Kept));
-    assert_eq!(rt; first_byte(alloc, &mut node, 1), Some(11));
-    // Stripe 1 went first, so stripe 0 is dropped.
-    assert!(rt; matches!(put(alloc, &mut node, 2, 12), NodeReply::Kept));
-    assert_eq!(rt; first_byte(alloc, &mut node, 0), None);
-    assert_eq!(rt; first_byte(alloc, &mut node, 1), Some(11));
-    // A flip leaves the order, so stripe 2 is the last one.
-    let flip = NodeCall::Flip {
-        name: NAME,
-        index: 2,
-        at: 0,
-    };
-    assert!(rt; matches!(serve(alloc, &mut node, 1, flip), NodeReply::Flipped));
-    assert!(rt; matches!(put(alloc, &mut node, 3, 13), NodeReply::Kept));
-    assert_eq!(rt; first_byte(alloc, &mut node, 2), None);
-    let flip = NodeCall::Flip {
-        name: NAME,
-        index: 3,
-        at: 0,
-    };
-    assert!(rt; matches!(serve(alloc, &mut node, 1, flip), NodeReply::Flipped));
-    assert_eq!(rt; first_byte(alloc, &mut node, 3), Some(12));
-    let drop = NodeCall::Drop {
-        name: NAME,
-        index: 3,
-    };
-    assert!(rt; matches!(serve(alloc, &mut node, 1, drop), NodeReply::Dropped));
-    let drop = NodeCall::Drop {
-        name: NAME,
-        index: 3,
-    };
-    assert!(rt; matches!(serve(alloc, &mut node, 1, drop), NodeReply::Absent));
-    assert!(rt;
-        matches!(
-            serve(alloc, &mut node, 1, NodeCall::Lose),
-            NodeReply::Lost(1)
-        )
-    );
-    assert_eq!(rt; node.entries(), 15);
-    assert!(rt; node.entry(14).is_some() && node.entry(15).is_none());
+    let mut node = Node::new(alloc, 3)?;
+    let mut entries = 0u64;
+    for (step, kind, held) in [
+        (Step::Get(0), "absent", [].as_slice()),
+        (Step::Put(0, 10), "kept", &[(0, 10)]),
+        (Step::Put(1, 11), "kept", &[(1, 11), (0, 10)]),
+        (Step::Put(2, 12), "kept", &[(2, 12), (1, 11), (0, 10)]),
+        (Step::Get(0), "found", &[(0, 10), (2, 12), (1, 11)]),
+        (Step::Get(4), "absent", &[(0, 10), (2, 12), (1, 11)]),
+        // In place of the stripe of its index: none is dropped.
+        (Step::Put(1, 21), "kept", &[(1, 21), (0, 10), (2, 12)]),
+        // The last one is dropped.
+        (Step::Put(3, 13), "kept", &[(3, 13), (1, 21), (0, 10)]),
+        (Step::Flip(1, 0), "flipped", &[(3, 13), (1, 20), (0, 10)]),
+        (Step::Flip(1, 1), "flipped", &[(3, 13), (1, 20), (0, 10)]),
+        (Step::Flip(1, 2), "flipped", &[(3, 13), (1, 20), (0, 10)]),
+        (Step::Flip(2, 0), "absent", &[(3, 13), (1, 20), (0, 10)]),
+        (Step::Drop(1), "dropped", &[(3, 13), (0, 10)]),
+        (Step::Drop(1), "absent", &[(3, 13), (0, 10)]),
+        (Step::Lose, "lost 2", &[]),
+        (Step::Get(3), "absent", &[]),
+    ] {
+        let reply = serve(alloc, &mut node, 1, call_of(alloc, step)?);
+        entries = entries.saturating_add(1);
+        assert_eq!(rt; kind_of(&reply), kind, "call {entries}");
+        assert!(rt; node.held(alloc)?.as_slice() == held, "call {entries}");
+    }
+    assert_eq!(rt; node.entries(), 16);
+    assert!(rt; node.entry(15).is_some() && node.entry(16).is_none());
+    Ok(())
+}
+
+// Of 256 stripes the most recent 200 stay.
+#[test]
+fn a_full_node_keeps_the_most_recent_stripes(rt: HostRuntime) -> Result<(), Fail> {
+    let alloc = rt.alloc();
+    let mut node = Node::new(alloc, 200)?;
+    for index in 0..=255u8 {
+        let reply = serve(
+            alloc,
+            &mut node,
+            1,
+            call_of(alloc, Step::Put(index, index))?,
+        );
+        assert_eq!(rt; kind_of(&reply), "kept");
+    }
+    let held = node.held(alloc)?;
+    assert_eq!(rt; held.len(), 200);
+    assert_eq!(rt; held.first().copied(), Some((255, 255)));
+    assert_eq!(rt; held.last().copied(), Some((56, 56)));
     Ok(())
 }
 
 #[test]
 fn the_stripes_of_a_chunk_stand_side_by_side(rt: HostRuntime) {
-    let mut name = NAME;
-    name.bytes = [0; 32];
-    for (index, node) in [(0u8, 0u32), (4, 4), (7, 2)] {
-        assert_eq!(rt; place(&name, index, 5), node);
+    let zeros = Name { bytes: [0; 32] };
+    let mut other = zeros;
+    other.bytes[0] = 1;
+    other.bytes[1] = 2;
+    for (name, index, nodes, node) in [
+        (zeros, 0u8, 5u32, 0u32),
+        (zeros, 4, 5, 4),
+        (zeros, 7, 5, 2),
+        (other, 0, 5, 3),
+        (other, 1, 5, 4),
+        (other, 4, 5, 2),
+        (other, 0, 7, 6),
+        (other, 4, 7, 3),
+        (NAME, 0, 5, 4),
+    ] {
+        assert!(rt; nodes > 0);
+        assert_eq!(rt; place(&name, index, nodes), node);
     }
-    assert_eq!(rt; place(&NAME, 0, 5), 0x0707 % 5);
 }

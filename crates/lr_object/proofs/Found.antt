@@ -24,7 +24,7 @@ pub finds : {X : Type 0} (p : X → Bool) (xs : List X) → FindsAt p xs (positi
 finds p xs = by_test p xs _ refl
 
 -- the place of an element is that of what it is seen as
-position_or_len-map : {X Y : Type 0} (p : Y → Bool) (f : X → Y) (xs : List X) → position_or_len p (map f xs) ≡ position_or_len (λ x. p (f x)) xs
+pub position_or_len-map : {X Y : Type 0} (p : Y → Bool) (f : X → Y) (xs : List X) → position_or_len p (map f xs) ≡ position_or_len (λ x. p (f x)) xs
 position_or_len-map p f [] = refl
 position_or_len-map p f (x ∷ xs) = ap (λ n. cond (not (p (f x))) (1 + n) 0) (position_or_len-map p f xs)
 

@@ -1,3 +1,4 @@
 pub mod Growth
 pub mod OwnEntries
 pub mod Found
+pub mod Counted

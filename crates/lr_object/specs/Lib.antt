@@ -1,3 +1,4 @@
 pub mod Own
 pub mod Grown
 pub mod Finds
+pub mod Kept

@@ -1,3 +1,4 @@
+//! A line of a log.
 /// A line of an object's log: who called, what is kept of the call, and what is kept of the reply.
 #[derive(Drop, Clone, Debug, PartialEq, Eq)]
 pub struct Entry<C, R> {

@@ -1,3 +1,4 @@
+//! The name of an object of a run.
 /// An object of a run. Devices, caches and nodes are counted from 0.
 #[derive(Clone, Copy, Debug, PartialEq, Eq)]
 pub enum ObjectId {

@@ -1,3 +1,4 @@
+//! The trait of objects.
 ghost use Rattle.std.specs.Prelude.{◌≡◌, ℕ, List, [], ◌∷◌, ◌++◌, length, Bool, MatchBool, slice_get, option_copied};
 ghost use Rattle.std.specs.Bool.{OnFalse};
 ghost use Rattle.lr_object.specs.declared.entry.Entry.{Entry};

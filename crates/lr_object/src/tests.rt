@@ -1,3 +1,4 @@
+//! A small object through the bound, and the edits of a list.
 ghost use Rattle.std.specs.Prelude.{◌≡◌, length, IfSome, Some, []};
 ghost use Rattle.std.specs.Option.{is_some};
 

@@ -4,3 +4,4 @@ pub mod Views
 pub mod Names
 pub mod Listed
 pub mod Readings
+pub mod Bounded

@@ -2,8 +2,8 @@
 use Rattle.std.proofs.Common.{◌≡◌, ◌<◌, ◌≤◌, ◌+◌, ℕ, arith, List, Some, refl, sym, ap, subst, ◌∙◌, inl, inr}
 use mathlib.Core.Logic.{◌⊎◌}
 use Rattle.std.specs.FinMap as map
-use Rattle.lr_manifest.specs.Manifest.{Fields, IsManifest, spelling}
-use Rattle.lr_manifest.proofs.Unique.{unique}
+use Rattle.lr_manifest.specs.Manifest.{ManifestFields, IsManifest, spelling}
+use Rattle.lr_manifest.proofs.Public.{unique}
 use Rattle.lr_origin.specs.Text.{IsKind}
 use Rattle.lr_origin.specs.declared.key.KeyKind.{KeyKind}
 use Rattle.lr_origin.specs.declared.key.KeyKind.TheVariants.{Root, Expired, Deleted, Chunk, Manifest, Withdrawn}
@@ -42,10 +42,10 @@ module _ (v : View) (keys : (k : KeyKind) → Has v k → IsKind k) (fits : (k :
           by (inr more) = absurd (has_not_lacks v (Root (r + 1)) lacks (all_roots (Root q) q (r + 1) there refl (omega arith) more))
 
   -- what a manifest's key keeps
-  a_manifest : (r : ℕ) (image : List ℕ) (x : Held) → map.get v (Manifest r image) ≡ Some x → (m : Fields) × (x ≡ manifest m) × IsManifest m
+  a_manifest : (r : ℕ) (image : List ℕ) (x : Held) → map.get v (Manifest r image) ≡ Some x → (m : ManifestFields) × (x ≡ manifest m) × IsManifest m
   a_manifest r image x e = by x (fits (Manifest r image) x e)
     where
-      by : (x : Held) → Suits (Manifest r image) x → (m : Fields) × (x ≡ manifest m) × IsManifest m
+      by : (x : Held) → Suits (Manifest r image) x → (m : ManifestFields) × (x ≡ manifest m) × IsManifest m
       by (manifest m) s = (m, refl, s.0)
       by (salt bytes) s = absurd s
       by bare s = absurd s
@@ -64,7 +64,7 @@ module _ (v : View) (keys : (k : KeyKind) → Has v k → IsKind k) (fits : (k :
       let o = a_manifest r image x here in
       by f.0 o.0 f.1 o.1 f.2 o.2 (same_list (spelling o.0) (spelling f.0))
     where
-      by : (f o : Fields) → first ≡ manifest f → x ≡ manifest o → IsManifest f → IsManifest o → Decided (spelling o ≡ spelling f) → x ≡ first
+      by : (f o : ManifestFields) → first ≡ manifest f → x ≡ manifest o → IsManifest f → IsManifest o → Decided (spelling o ≡ spelling f) → x ≡ first
       by f o a b i j (inl e) = b ∙ ap manifest (unique (spelling o) o f (j, refl) (i, e)) ∙ sym a
       by f o a b i j (inr not) =
           absurd (none (Manifest r image) (is_some (map.get v (Manifest r image)) x here, inr (inr (inl (q, f, o, is, there ∙ ap Some a, here ∙ ap Some b, λ e. not (ap spelling e))))))
@@ -78,7 +78,7 @@ module _ (v : View) (keys : (k : KeyKind) → Has v k → IsKind k) (fits : (k :
   decide_has : (k : KeyKind) → Decided (Has v k)
   decide_has k = elim (has_or_lacks v k) [ inl h ↦ inl h | inr l ↦ inr (λ h. has_not_lacks v k l h) ]
 
-  all_chunks : (image : List ℕ) (r : ℕ) (m : Fields) → IsLive v r → map.get v (Manifest r image) ≡ Some (manifest m) → IsComplete v r m
+  all_chunks : (image : List ℕ) (r : ℕ) (m : ManifestFields) → IsLive v r → map.get v (Manifest r image) ≡ Some (manifest m) → IsComplete v r m
   all_chunks image r m live e = all_stable (λ name. Has v (Chunk r name.bytes)) (λ name. decide_has (Chunk r name.bytes)) m.names
       (λ not. none (Manifest r image) (is_some (map.get v (Manifest r image)) (manifest m) e, inr (inr (inr (inl (live, (m, e, not)))))))
 
@@ -161,7 +161,7 @@ module _ (v : View) (sound : IsSound v) where
   in_order (Manifest r image) has h = absurd h
   in_order (Withdrawn image) has h = absurd h
 
-  held_inside : (x y : Fields) → manifest x ≡ manifest y → x ≡ y
+  held_inside : (x y : ManifestFields) → manifest x ≡ manifest y → x ≡ y
   held_inside x y e = cc
 
   no_difference : (k : KeyKind) → DiffersFromFirst v k → ⊥

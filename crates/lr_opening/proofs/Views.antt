@@ -6,7 +6,7 @@ use Rattle.std.specs.Ordering.{ordering_reverse}
 use Rattle.std.specs.Cmp.Lexicographic.{nat_list_cmp_total}
 use Rattle.std.specs.FinMap as map
 use Rattle.std.specs.FinMap.{same_map}
-use Rattle.lr_manifest.proofs.Unique.{unique}
+use Rattle.lr_manifest.proofs.Public.{unique}
 use Rattle.lr_origin.specs.Kind.{kind_total, kind_exact}
 use Rattle.lr_origin.specs.Objects.{Objects, key_cmp}
 use Rattle.lr_origin.specs.Text.{key_text, IsKind}

@@ -6,13 +6,10 @@ ghost use Rattle.lr_opening.specs.Reading.{IsKeptOf};
 
 use lr_manifest::{Manifest, ManifestError};
 use lr_origin::KeyKind;
-use lr_roots::Kept;
+use lr_roots::{Kept, NUMBER_MAX};
 use lr_spec::OutOfMemory;
 use std::alloc::Global;
 use std::sync::Arc;
-
-/// The greatest creation number.
-const NUMBER_MAX: u64 = 9_223_372_036_854_775_807;
 
 fn kept_salt(body: &[u8]) -> Option<Kept>
     ensures { (r : ℕ) → IsKeptOf (kind.Root r) body.now result }

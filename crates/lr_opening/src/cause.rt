@@ -1,3 +1,5 @@
+//! Why a store wasn't opened.
+
 use lr_origin::Key;
 use lr_spec::OutOfMemory;
 

@@ -1,3 +1,5 @@
+//! Stores that open, and stores that are refused or fail.
+
 use crate::{StartCause, open};
 use lr_origin::{
     Fail as Failure, ImageName, MemOrigin, Op, Origin, OriginError, OriginFailed, Put,

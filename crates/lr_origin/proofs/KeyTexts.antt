@@ -5,7 +5,7 @@ use Rattle.std.specs.Prelude.{slice_index, codes, false, true}
 use Rattle.std.proofs.lemmas.Bool.{false≢true}
 use Rattle.lr_text.specs.Name.{is_name}
 use Rattle.lr_text.specs.Words.{IsKey, key_word}
-use Rattle.lr_text.proofs.Keys.{one_key}
+use Rattle.lr_text.proofs.Public.{one_key}
 use Rattle.lr_origin.specs.Text.{key_text, root_text, root_value, IsKind, IsRoot}
 use Rattle.lr_origin.specs.declared.key.KeyKind.{KeyKind}
 use Rattle.lr_origin.specs.declared.key.KeyKind.TheVariants.{Root, Expired, Deleted, Chunk, Manifest, Withdrawn}

@@ -16,7 +16,7 @@ fuse_faults faults f = min (faults f.inner + f.own) last_count
 
 -- It passes a call.
 abbrev pub Passes : {O : Type 0} → Fuse O → Fuse O → Type 0
-Passes old new = (new.calls + 1 ≡ old.calls) × (new.done ≡ old.done)
+Passes old new = (new.calls + 1 ≡ old.calls) × (new.done ≡ old.done) × (new.own ≡ old.own)
 
 -- It fails a call that changes nothing.
 abbrev pub FailsReading : {O : Type 0} → Fuse O → Fuse O → Type 0

@@ -89,6 +89,7 @@ impl<O: Origin> Origin for FuseOrigin<O> {
         ensures never_falls { fuse_faults O.faults self.old ≤ fuse_faults O.faults self.new }
         ensures cause { IsErrOf result OriginError.Failed → Rose (fuse_faults O.faults self.old) (fuse_faults O.faults self.new) }
         ensures passes { 0 < self.old.calls → Passes self.old self.new }
+        ensures inner { 0 < self.old.calls → IsErrOf result OriginError.Failed → Rose (O.faults self.old.inner) (O.faults self.new.inner) }
         ensures fails { self.old.calls ≡ 0 → (result ≡ Err OriginError.Failed) × FailsReading self.old self.new }
     {
         if self.passes() {
@@ -103,7 +104,8 @@ impl<O: Origin> Origin for FuseOrigin<O> {
         ensures never_falls { fuse_faults O.faults self.old ≤ fuse_faults O.faults self.new }
         ensures cause { IsErrOf result OriginError.Failed → Rose (fuse_faults O.faults self.old) (fuse_faults O.faults self.new) }
         ensures passes { 0 < self.old.calls → Passes self.old self.new }
-        ensures fails { self.old.calls ≡ 0 → (result ≡ Err OriginError.Failed) × FailsChange (λ a b. (r : Result PutAnswer PutError) × Told (O.objects a) (λ m. Puts key.now body.now r m (O.objects b))) self.old self.new }
+        ensures inner { 0 < self.old.calls → IsErrOf result OriginError.Failed → Rose (O.faults self.old.inner) (O.faults self.new.inner) }
+        ensures fails { self.old.calls ≡ 0 → (result ≡ Err OriginError.Failed) × FailsChange (λ a b. (r : Result PutAnswer PutError) × Told (O.objects a) (λ m. Puts key.now body.now r m (O.objects b)) × (IsErrOf r OriginError.Failed → Rose (O.faults a) (O.faults b))) self.old self.new }
     {
         if self.passes() {
             return self.inner.put(alloc, key, body);
@@ -122,7 +124,8 @@ impl<O: Origin> Origin for FuseOrigin<O> {
         ensures never_falls { fuse_faults O.faults self.old ≤ fuse_faults O.faults self.new }
         ensures cause { OnErr result (Rose (fuse_faults O.faults self.old) (fuse_faults O.faults self.new)) }
         ensures passes { 0 < self.old.calls → Passes self.old self.new }
-        ensures fails { self.old.calls ≡ 0 → IsErr result × FailsChange (λ a b. (r : Result (Unit {0}) DeleteError) × Told (O.objects a) (λ m. Deletes key.now r m (O.objects b))) self.old self.new }
+        ensures inner { 0 < self.old.calls → IsErr result → Rose (O.faults self.old.inner) (O.faults self.new.inner) }
+        ensures fails { self.old.calls ≡ 0 → IsErr result × FailsChange (λ a b. (r : Result (Unit {0}) DeleteError) × Told (O.objects a) (λ m. Deletes key.now r m (O.objects b)) × OnErr r (Rose (O.faults a) (O.faults b))) self.old self.new }
     {
         if self.passes() {
             return self.inner.delete(key);
@@ -146,6 +149,7 @@ impl<O: Origin> Origin for FuseOrigin<O> {
         ensures never_falls { fuse_faults O.faults self.old ≤ fuse_faults O.faults self.new }
         ensures cause { IsErrOf result OriginError.Failed → Rose (fuse_faults O.faults self.old) (fuse_faults O.faults self.new) }
         ensures passes { 0 < self.old.calls → Passes self.old self.new }
+        ensures inner { 0 < self.old.calls → IsErrOf result OriginError.Failed → Rose (O.faults self.old.inner) (O.faults self.new.inner) }
         ensures fails { self.old.calls ≡ 0 → (result ≡ Err OriginError.Failed) × FailsReading self.old self.new }
     {
         if self.passes() {

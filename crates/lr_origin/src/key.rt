@@ -30,8 +30,8 @@ pub enum KeyKind {
     Withdrawn(ImageName),
 }
 
-// The most roots.
-const ROOTS_MAX: u32 = 1000;
+/// The most roots of a store.
+pub const ROOTS_MAX: u32 = 1000;
 
 impl KeyKind {
     /// Whether the root, if it has one, is from 1 to 1,000.

@@ -13,7 +13,7 @@ mod table;
 mod text;
 
 pub use fuse::FuseOrigin;
-pub use key::{Key, KeyKind};
+pub use key::{Key, KeyKind, ROOTS_MAX};
 pub use lr_text::ImageName;
 pub use memory::{Fail, MemOrigin, Op};
 pub use origin::{Origin, OriginError, OriginFailed, Put};

@@ -20,7 +20,8 @@ pub enum Op {
 
 /// The nth call (from 1) of an operation on a key fails, and has its effect where `done` holds.
 ///
-/// The key of `NextKey` is its argument, empty for `None`. A call that finds no memory isn't counted.
+/// The key of `NextKey` is its argument, empty for `None`. A call that finds no memory isn't counted, but for a put that
+/// finds none for its entry when its copies of the key and the body are made.
 #[derive(Drop)]
 pub struct Fail {
     pub op: Op,

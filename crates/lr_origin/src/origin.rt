@@ -1,3 +1,4 @@
+//! The store of objects as a trait, and its answers.
 ghost use Rattle.std.specs.Prelude.{◌≡◌, ◌≤◌, ℕ, Option, IfOk, IsErrOf, OnErr};
 ghost use Rattle.std.specs.FinMap as map;
 ghost use Rattle.lr_spec.specs.Rose.{Rose};

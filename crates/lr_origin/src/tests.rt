@@ -1,3 +1,5 @@
+//! Keys good and bad, and stores in memory that fail where they are told to.
+
 use crate::{Fail, FuseOrigin, Key, KeyKind, MemOrigin, Op, Origin, OriginError, Put};
 use lr_spec::OutOfMemory;
 use std::alloc::{AllocError, Global};
@@ -149,6 +151,19 @@ fn a_fuse_stops_after_its_calls(rt: HostRuntime) -> Result<(), test::Fail> {
         assert!(rt; fuse.put(alloc, b"b", b"") == Err(OriginError::Failed));
         let mut store = fuse.into_inner();
         assert!(rt; store.get(alloc, b"a")?.is_some() != done);
+        assert!(rt; store.get(alloc, b"b")?.is_none());
+
+        let mut fuse = FuseOrigin::new(MemOrigin::new(alloc), 0, done);
+        assert!(rt; fuse.put(alloc, b"a", b"1") == Err(OriginError::Failed));
+        assert!(rt; fuse.put(alloc, b"b", b"") == Err(OriginError::Failed));
+        assert!(rt; fuse.delete(b"a").is_err());
+        let mut store = fuse.into_inner();
+        assert!(rt;
+            store
+                .get(alloc, b"a")?
+                .is_some_and(|b| b.as_slice() == b"1".as_slice())
+                == done
+        );
         assert!(rt; store.get(alloc, b"b")?.is_none());
     }
     Ok(())

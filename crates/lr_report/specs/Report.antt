@@ -2,12 +2,12 @@
 use Rattle.std.specs.Prelude.{ℕ, ◌+◌, List, [], ◌∷◌, ◌++◌, codes, decimal}
 use Rattle.std.specs.List.{flat_map}
 use Rattle.lr_text.specs.Bytes.{bytes_text}
-use Rattle.lr_device.specs.declared.plain.Entry.{Entry}
-use Rattle.lr_device.specs.declared.plain.DeviceCall.{DeviceCall}
-use Rattle.lr_device.specs.declared.plain.DeviceCall.TheVariants.{Read}
-use Rattle.lr_device.specs.declared.plain.DeviceReply.{DeviceReply}
-use Rattle.lr_device.specs.declared.plain.DeviceReply.TheVariants.{Got, Range}
-use Rattle.lr_script.specs.Seen.{ScriptSeen}
+use Rattle.lr_plain.specs.declared.plain.Entry.{Entry}
+use Rattle.lr_plain.specs.declared.plain.DeviceCall.{DeviceCall}
+use Rattle.lr_plain.specs.declared.plain.DeviceCall.TheVariants.{Read}
+use Rattle.lr_plain.specs.declared.plain.DeviceReply.{DeviceReply}
+use Rattle.lr_plain.specs.declared.plain.DeviceReply.TheVariants.{Got, Range}
+use Rattle.lr_single.specs.Seen.{ScriptSeen}
 
 -- ` read OFFSET LENGTH `
 abbrev pub call_text : DeviceCall → List ℕ

@@ -1,5 +1,5 @@
-use lr_device::Plain;
-use lr_script::Script;
+use lr_plain::Plain;
+use lr_single::Script;
 
 /// What was run: the script that was read, and its device with the log of the calls that it answered.
 #[derive(Drop)]

@@ -3,8 +3,8 @@ ghost use Rattle.std.specs.List.{flat_map};
 ghost use Rattle.lr_report.specs.Report.{call_text, reply_text, entry_text, result_text, results_text, device_line, device_part, actor_part, report_text};
 
 use crate::run::Run;
-use lr_device::{DeviceCall, DeviceReply, Entry, Plain};
-use lr_script::Script;
+use lr_plain::{DeviceCall, DeviceReply, Entry, Plain};
+use lr_single::Script;
 use lr_spec::OutOfMemory;
 use lr_text::{put_bytes, put_number};
 use std::alloc::Global;

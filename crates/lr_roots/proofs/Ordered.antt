@@ -7,7 +7,7 @@ use Rattle.std.specs.List.{AllByRecursion}
 use Rattle.std.specs.List.Sorted.{IsStrictlySortedBy}
 use Rattle.std.proofs.lemmas.Map.Keys.{sorted_head, sorted_tail}
 use Rattle.std.specs.FinMap as fin
-use Rattle.lr_manifest.specs.Manifest.{Fields}
+use Rattle.lr_manifest.specs.Manifest.{ManifestFields}
 use Rattle.lr_origin.specs.Kind.{kind_cmp, kind_total}
 use Rattle.lr_origin.specs.declared.key.KeyKind.{KeyKind}
 use Rattle.lr_origin.specs.Objects.{key_cmp, IsAfter}
@@ -42,7 +42,7 @@ AreNearerLeft v after best rest = (q : List ℕ) → IsNearer after best q → I
 
 -- a manifest with a greater number is among the rest
 abbrev pub AreGreaterLeft : View → ℕ → List KeyKind → Type 0
-AreGreaterLeft v n rest = (key : KeyKind) (m : Fields) → IsManifestAt v key m → (number_of m ≤ n) ⊎ IsOneOf rest key
+AreGreaterLeft v n rest = (key : KeyKind) (m : ManifestFields) → IsManifestAt v key m → (number_of m ≤ n) ⊎ IsOneOf rest key
 
 one_of : (ks : List KeyKind) (q : KeyKind) → list_any (eq_by_cmp kind_cmp q) ks ≡ true → IsOneOf ks q
 one_of [] q e = cc
@@ -190,7 +190,7 @@ pub nearer_end : (v : View) (after best : Option (List ℕ)) (rest : List KeyKin
 nearer_end v after None rest e left found = λ q past named. (subst (λ l. IsNamedLater v l q) e (left q (past, tt) named)).1
 nearer_end v after (Some b) rest e left found = (found.0, found.1, λ q past less named. (subst (λ l. IsNamedLater v l q) e (left q (past, less) named)).1)
 
-has_manifest : (v : View) (key : KeyKind) (m : Fields) → IsManifestAt v key m → Has v key
+has_manifest : (v : View) (key : KeyKind) (m : ManifestFields) → IsManifestAt v key m → Has v key
 has_manifest v (Manifest r i) m e = subst IsSome (sym e) refl
 has_manifest v (Withdrawn i) m e = absurd e
 has_manifest v (Root r) m e = absurd e
@@ -201,7 +201,7 @@ has_manifest v (Chunk r n) m e = absurd e
 pub greater_start : (v : View) (ks : List KeyKind) → ((q : KeyKind) → Has v q → IsOneOf ks q) → AreGreaterLeft v 0 ks
 greater_start v ks within key m at = inr (within key (has_manifest v key m at))
 
-pub greater_step : (v : View) (all rest : List KeyKind) (k : KeyKind) (n next : ℕ) → all ≡ k ∷ rest → n ≤ next → ((m : Fields) → IsManifestAt v k m → number_of m ≤ next) → AreGreaterLeft v n all → AreGreaterLeft v next rest
+pub greater_step : (v : View) (all rest : List KeyKind) (k : KeyKind) (n next : ℕ) → all ≡ k ∷ rest → n ≤ next → ((m : ManifestFields) → IsManifestAt v k m → number_of m ≤ next) → AreGreaterLeft v n all → AreGreaterLeft v next rest
 greater_step v all rest k n next split more own left key m at = by (left key m at)
   where
     here : IsOneOf (k ∷ rest) key → (number_of m ≤ next) ⊎ IsOneOf rest key
@@ -212,7 +212,7 @@ greater_step v all rest k n next split more own left key m at = by (left key m a
     by (inl le) = inl (omega (arith, le, more))
     by (inr i) = here (subst (λ l. IsOneOf l key) split i)
 
-pub greater_end : (v : View) (rest : List KeyKind) (n : ℕ) → rest ≡ [] → AreGreaterLeft v n rest → (key : KeyKind) (m : Fields) → IsManifestAt v key m → number_of m ≤ n
+pub greater_end : (v : View) (rest : List KeyKind) (n : ℕ) → rest ≡ [] → AreGreaterLeft v n rest → (key : KeyKind) (m : ManifestFields) → IsManifestAt v key m → number_of m ≤ n
 greater_end v rest n e left key m at = by (left key m at)
   where
     by : (number_of m ≤ n) ⊎ IsOneOf rest key → number_of m ≤ n

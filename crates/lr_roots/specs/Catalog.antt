@@ -9,7 +9,7 @@ use Rattle.std.specs.Option.{option_map}
 use Rattle.std.specs.FinMap as map
 use Rattle.lr_origin.specs.declared.key.KeyKind.{KeyKind}
 use Rattle.lr_origin.specs.Text.{IsKind}
-use Rattle.lr_manifest.specs.Manifest.{Fields}
+use Rattle.lr_manifest.specs.Manifest.{ManifestFields}
 use Rattle.lr_roots.specs.View.{View, Held, salt, manifest, held_code, Has, Fits}
 
 -- A catalog, as contracts see it: the view, and the key kept aside with what is kept of its object.
@@ -43,16 +43,16 @@ salt_of (Some (salt s)) = Some s
 salt_of held = None
 
 -- the manifest that is kept, if any
-abbrev pub manifest_of : Option Held → Option Fields
+abbrev pub manifest_of : Option Held → Option ManifestFields
 manifest_of (Some (manifest m)) = Some m
 manifest_of held = None
 
 -- the manifest behind a reference, if any
-abbrev pub arc_of : Option (Bor (Arc Fields Global)) → Option Fields
+abbrev pub arc_of : Option (Bor (Arc ManifestFields Global)) → Option ManifestFields
 arc_of None = None
 arc_of (Some r) = Some (arc_value r.now)
 
-abbrev pub seen_code : Coded KeyKind → Coded Fields → Coded Seen
+abbrev pub seen_code : Coded KeyKind → Coded ManifestFields → Coded Seen
 seen_code kinds fields =
     code_by (View × Option (KeyKind × Held)) (coded× (map.code kinds (held_code fields)) (coded_option (coded× kinds (held_code fields))))
     (λ s. (s.view, s.aside)) (λ p. record { view = p.0; aside = p.1 }) (λ _. refl)

@@ -1,7 +1,7 @@
 -- The rules of a sound store that the keys of a view can break, each with the key that breaks it.
 use Rattle.std.specs.Prelude.{◌≡◌, ◌≢◌, ◌⊎◌, ◌<◌, ◌≤◌, ℕ, List, Some}
 use Rattle.std.specs.FinMap as map
-use Rattle.lr_manifest.specs.Manifest.{Fields}
+use Rattle.lr_manifest.specs.Manifest.{ManifestFields}
 use Rattle.lr_origin.specs.declared.key.KeyKind.{KeyKind}
 use Rattle.lr_origin.specs.declared.key.KeyKind.TheVariants.{Root, Expired, Deleted, Chunk, Manifest, Withdrawn}
 use Rattle.lr_roots.specs.View.{View, Has, Lacks, manifest}
@@ -34,14 +34,14 @@ IsFirstRoot v image r = Has v (Manifest r image) × ((q : ℕ) → q < r → Lac
 -- differs just where its bytes do.
 abbrev pub DiffersFromFirst : View → KeyKind → Type 0
 DiffersFromFirst v (Manifest r image) =
-    (q : ℕ) × (first : Fields) × (own : Fields) × IsFirstRoot v image q
+    (q : ℕ) × (first : ManifestFields) × (own : ManifestFields) × IsFirstRoot v image q
     × (map.get v (Manifest q image) ≡ Some (manifest first)) × (map.get v (Manifest r image) ≡ Some (manifest own)) × (own ≢ first)
 DiffersFromFirst v key = ⊥
 
 -- A chunk that the manifest of a live root names isn't there under the root.
 abbrev pub LacksChunk : View → KeyKind → Type 0
 LacksChunk v (Manifest r image) =
-    IsLive v r × ((m : Fields) × (map.get v (Manifest r image) ≡ Some (manifest m)) × ¬ (IsComplete v r m))
+    IsLive v r × ((m : ManifestFields) × (map.get v (Manifest r image) ≡ Some (manifest m)) × ¬ (IsComplete v r m))
 LacksChunk v key = ⊥
 
 -- An image that isn't withdrawn has no home, or its home is expired. The key is its manifest in the greatest root

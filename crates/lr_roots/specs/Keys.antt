@@ -13,7 +13,6 @@ use Rattle.lr_roots.specs.View.{View, Held, salt, manifest, bare}
 abbrev pub plain : kept.Kept → Held
 plain (variants.Salt s) = salt s
 plain (variants.Manifest m) = manifest (arc_value m)
-plain (variants.Chunk c) = bare
 plain variants.Empty = bare
 
 abbrev pub plain_entry : KeyKind × kept.Kept → KeyKind × Held

@@ -3,7 +3,7 @@ use Rattle.std.specs.Prelude.{◌≡◌, ◌≤◌, ◌<◌, ℕ, List, [], ◌�
 use Rattle.std.specs.Int.{w64, from_be_bytes}
 use Rattle.std.specs.declared.cmp.Ordering.TheVariants.{Less}
 use Rattle.std.specs.FinMap as map
-use Rattle.lr_manifest.specs.Manifest.{Fields}
+use Rattle.lr_manifest.specs.Manifest.{ManifestFields}
 use Rattle.lr_origin.specs.Kind.{kind_cmp}
 use Rattle.lr_origin.specs.Objects.{key_cmp, IsAfter}
 use Rattle.lr_origin.specs.declared.key.KeyKind.{KeyKind}
@@ -72,17 +72,17 @@ IsFirst P None = (q : KeyKind) → ¬ (P q)
 IsFirst P (Some key) = P key × ((q : KeyKind) → kind_cmp q key ≡ Less → ¬ (P q))
 
 -- the creation number of a manifest: the last 8 bytes of its nonce, big-endian
-abbrev pub number_of : Fields → ℕ
+abbrev pub number_of : ManifestFields → ℕ
 number_of m = from_be_bytes w64 (drop 4 m.nonce)
 
 -- the manifest that the view keeps under this key
-abbrev pub IsManifestAt : View → KeyKind → Fields → Type 0
+abbrev pub IsManifestAt : View → KeyKind → ManifestFields → Type 0
 IsManifestAt v (Manifest r image) m = map.get v (Manifest r image) ≡ Some (manifest m)
 IsManifestAt v key m = ⊥
 
 -- a manifest of the view has this creation number
 abbrev pub HasNumber : View → ℕ → Type 0
-HasNumber v n = (key : KeyKind) × (m : Fields) × IsManifestAt v key m × (number_of m ≡ n)
+HasNumber v n = (key : KeyKind) × (m : ManifestFields) × IsManifestAt v key m × (number_of m ≡ n)
 
 -- The greatest creation number of a manifest, 0 where there is none.
 pub record IsGreatestNumber (v : View) (n : ℕ) : Type 0 where

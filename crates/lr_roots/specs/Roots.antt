@@ -1,7 +1,7 @@
 -- The roots of a view: their states, the homes of images, complete manifests.
 use Rattle.std.specs.Prelude.{◌≡◌, ◌<◌, ◌≤◌, ℕ, List, Option, Some, None, All}
 use Rattle.std.specs.List.{slice_get}
-use Rattle.lr_manifest.specs.Manifest.{Fields}
+use Rattle.lr_manifest.specs.Manifest.{ManifestFields}
 use Rattle.lr_manifest.specs.declared.name.Name.{Name}
 use Rattle.lr_origin.specs.declared.key.KeyKind.TheVariants.{Root, Expired, Deleted, Chunk, Manifest}
 use Rattle.lr_roots.specs.declared.state.RootState.{RootState}
@@ -47,7 +47,7 @@ abbrev pub IsHomed : View → List ℕ → Type 0
 IsHomed v image = (r : ℕ) × IsHome v image r × Lacks v (Expired r)
 
 -- Each chunk that the manifest names is there under the root.
-abbrev pub IsComplete : View → ℕ → Fields → Type 0
+abbrev pub IsComplete : View → ℕ → ManifestFields → Type 0
 IsComplete v r m = All (λ name. Has v (Chunk r name.bytes)) m.names
 
 -- The first name whose chunk isn't there under the root stands at this place.

@@ -2,7 +2,7 @@
 use Rattle.std.specs.Prelude.{◌≡◌, ◌≤◌, ◌+◌, ℕ, List, Option, Some, None, length, ⊤}
 use Rattle.std.specs.Int.{w32, from_be_bytes}
 use Rattle.std.specs.FinMap as map
-use Rattle.lr_manifest.specs.Manifest.{Fields, IsManifest}
+use Rattle.lr_manifest.specs.Manifest.{ManifestFields, IsManifest}
 use Rattle.lr_origin.specs.Text.{IsKind}
 use Rattle.lr_origin.specs.declared.key.KeyKind.{KeyKind}
 use Rattle.lr_origin.specs.declared.key.KeyKind.TheVariants.{Root, Expired, Deleted, Chunk, Manifest, Withdrawn}
@@ -11,11 +11,11 @@ use Rattle.lr_roots.specs.Roots.{IsLive, IsHomed, IsComplete}
 use Rattle.lr_roots.specs.Names.{number_of}
 
 -- the root in which a manifest was made: the first 4 bytes of its nonce, big-endian
-abbrev pub maker_of : Fields → ℕ
+abbrev pub maker_of : ManifestFields → ℕ
 maker_of m = from_be_bytes w32 m.nonce
 
 -- A manifest was made in a root up to this one, and its creation number is within its limit.
-pub record IsNumbered (r : ℕ) (m : Fields) : Type 0 where
+pub record IsNumbered (r : ℕ) (m : ManifestFields) : Type 0 where
   pub first : 1 ≤ maker_of m
   pub own : maker_of m ≤ r
   pub least : 1 ≤ number_of m
@@ -50,5 +50,5 @@ pub record IsSound (v : View) : Type 0 where
   -- a root after an expired one is there, so the greatest root never expires
   pub never_active : (r : ℕ) → Has v (Expired r) → Has v (Root (r + 1))
   pub one_manifest : (image : List ℕ) (q r : ℕ) (x y : Held) → map.get v (Manifest q image) ≡ Some x → map.get v (Manifest r image) ≡ Some y → x ≡ y
-  pub complete : (image : List ℕ) (r : ℕ) (m : Fields) → IsLive v r → map.get v (Manifest r image) ≡ Some (manifest m) → IsComplete v r m
+  pub complete : (image : List ℕ) (r : ℕ) (m : ManifestFields) → IsLive v r → map.get v (Manifest r image) ≡ Some (manifest m) → IsComplete v r m
   pub homed : (image : List ℕ) (r : ℕ) → Has v (Manifest r image) → Lacks v (Withdrawn image) → IsHomed v image

@@ -1,6 +1,7 @@
+//! What a view keeps of an object.
 ghost use Rattle.std.specs.Prelude.{◌≡◌, Some};
 
-use lr_manifest::{Chunk, Manifest};
+use lr_manifest::Manifest;
 use std::sync::Arc;
 
 /// What is kept of an object.
@@ -10,8 +11,6 @@ pub enum Kept {
     Salt([u8; 32]),
     /// The manifest of an image in a root.
     Manifest(Arc<Manifest>),
-    /// A chunk whose put is in doubt; the catalog keeps chunks by their keys alone.
-    Chunk(Arc<Chunk>),
     /// The key alone.
     Empty,
 }

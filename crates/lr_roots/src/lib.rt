@@ -20,5 +20,8 @@ pub use kept::Kept;
 pub use keys::Keys;
 pub use state::RootState;
 
+/// The greatest creation number.
+pub const NUMBER_MAX: u64 = 9_223_372_036_854_775_807;
+
 #[cfg(test)]
 mod tests;

@@ -1,6 +1,6 @@
 //! How many keys and names there are, and which comes next.
 ghost use Rattle.std.specs.Prelude.{◌≡◌, ◌<◌, ◌^◌, ◌⊎◌, ◌↔◌, ℕ, List, IsTrue, MatchOption};
-ghost use Rattle.lr_manifest.specs.Manifest.{Fields};
+ghost use Rattle.lr_manifest.specs.Manifest.{ManifestFields};
 ghost use Rattle.lr_origin.specs.Objects.{IsAfter, pointed};
 ghost use Rattle.lr_roots.specs.View.{Has};
 ghost use Rattle.lr_roots.specs.Keys.{key_of};
@@ -126,7 +126,7 @@ impl Catalog {
     // The creation number of the manifest under the key, or 0 where there is none.
     fn number_at(&self, kind: KeyKind) -> u64
         ensures had { HasNumber self.now.view result ⊎ (result ≡ 0) }
-        ensures same { (m : Fields) → IsManifestAt self.now.view kind m → number_of m ≡ result }
+        ensures same { (m : ManifestFields) → IsManifestAt self.now.view kind m → number_of m ≡ result }
     {
         let KeyKind::Manifest(root, image) = kind else {
             return 0;

@@ -8,10 +8,7 @@ ghost use Rattle.lr_roots.specs.Roots.{IsLive, IsTop, IsRootState, IsHome, IsHom
 use crate::catalog::Catalog;
 use crate::state::RootState;
 use lr_manifest::{Manifest, Name};
-use lr_origin::{ImageName, KeyKind};
-
-/// The most roots.
-pub(crate) const ROOTS_MAX: u32 = 1000;
+use lr_origin::{ImageName, KeyKind, ROOTS_MAX};
 
 impl Catalog {
     /// The greatest root, or 0 where there is none. It is the number of roots, where their numbers have no gap.

@@ -1,3 +1,5 @@
+//! States of roots.
+
 /// The state of a root, which follows from its keys.
 #[derive(Clone, Copy, Debug, PartialEq, Eq)]
 pub enum RootState {

@@ -1,3 +1,4 @@
+//! Small stores, each breaking one rule, and keys that come and go.
 ghost use Rattle.std.specs.Prelude.{◌^◌, IfOk, IsTrue};
 ghost use Rattle.std.specs.FinMap as map;
 ghost use Rattle.lr_origin.specs.declared.key.KeyKind.{KeyKind as Kind};

@@ -2,7 +2,7 @@
 use Rattle.std.proofs.Common.{◌≡◌, ◌≢◌, ℕ, List, Option, Some, None, IsSome, refl, sym, ap, subst, ◌∙◌, inl, inr}
 use mathlib.Core.Logic.{◌⊎◌}
 use Rattle.std.specs.FinMap as fin
-use Rattle.lr_manifest.specs.Manifest.{Fields}
+use Rattle.lr_manifest.specs.Manifest.{ManifestFields}
 use Rattle.lr_origin.specs.declared.key.KeyKind.{KeyKind}
 use Rattle.lr_origin.specs.declared.key.KeyKind.TheVariants.{Deleted, Manifest, Withdrawn}
 use Rattle.lr_roots.specs.View.{Held, manifest, Has, Lacks}
@@ -18,7 +18,7 @@ same_some a b e = cc
 
 -- a manifest in doubt is in a root that serves, and its chunks are there
 abbrev pub AreWhole : Known → Type 0
-AreWhole s = (r : ℕ) (image : List ℕ) (m : Fields) → fin.get s.doubts (Manifest r image) ≡ Some (manifest m) → Lacks s.view (Manifest r image) → Always s (λ v. Serves v r) × IsComplete s.view r m
+AreWhole s = (r : ℕ) (image : List ℕ) (m : ManifestFields) → fin.get s.doubts (Manifest r image) ≡ Some (manifest m) → Lacks s.view (Manifest r image) → Always s (λ v. Serves v r) × IsComplete s.view r m
 
 -- an image whose withdrawal is in doubt has a manifest
 abbrev pub AreListed : Known → Type 0
@@ -26,7 +26,7 @@ AreListed s = (image : List ℕ) → IsSome (fin.get s.doubts (Withdrawn image))
 
 -- a root that serves, and has a manifest in doubt, serves in the other state too
 abbrev pub KeepsServing : Known → Known → Type 0
-KeepsServing s t = (r : ℕ) (image : List ℕ) (m : Fields) → fin.get s.doubts (Manifest r image) ≡ Some (manifest m) → Always s (λ v. Serves v r) → Always t (λ v. Serves v r)
+KeepsServing s t = (r : ℕ) (image : List ℕ) (m : ManifestFields) → fin.get s.doubts (Manifest r image) ≡ Some (manifest m) → Always s (λ v. Serves v r) → Always t (λ v. Serves v r)
 
 module _ (s : Known) (k : KeyKind) (x : Held) where
   -- a doubt that is left was there
@@ -80,7 +80,7 @@ module _ (s : Known) (k : KeyKind) (x : Held) where
         let was : Always s (λ v. Serves v r) × IsComplete s.view r m = whole r image m old.1 (lacked s.view k x (Manifest r image) away) in
         (serving r image m old.1 was.0, all_stay s.view k x r m was.1)
 
-    pub doubting_whole : KeepsServing s (doubting s k x) → ((r : ℕ) (image : List ℕ) (m : Fields) → Manifest r image ≡ k → x ≡ manifest m → Lacks s.view (Manifest r image) → Always (doubting s k x) (λ v. Serves v r) × IsComplete s.view r m) → AreWhole (doubting s k x)
+    pub doubting_whole : KeepsServing s (doubting s k x) → ((r : ℕ) (image : List ℕ) (m : ManifestFields) → Manifest r image ≡ k → x ≡ manifest m → Lacks s.view (Manifest r image) → Always (doubting s k x) (λ v. Serves v r) × IsComplete s.view r m) → AreWhole (doubting s k x)
     doubting_whole serving own r image m some away = by (new_doubted (Manifest r image) (manifest m) some)
       where
         by : ((Manifest r image ≡ k) × (x ≡ manifest m)) ⊎ ((Manifest r image ≢ k) × (fin.get s.doubts (Manifest r image) ≡ Some (manifest m))) → Always (doubting s k x) (λ v. Serves v r) × IsComplete s.view r m

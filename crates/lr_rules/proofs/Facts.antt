@@ -2,7 +2,7 @@
 use Rattle.std.proofs.Common.{◌≡◌, ◌≢◌, ◌≤◌, ◌<◌, ◌+◌, ℕ, List, Option, Some, None, IsSome, refl, sym, subst, ◌∙◌, inl, inr, arith, get_or}
 use mathlib.Core.Logic.{◌⊎◌}
 use Rattle.std.specs.FinMap as fin
-use Rattle.lr_manifest.specs.Manifest.{Fields}
+use Rattle.lr_manifest.specs.Manifest.{ManifestFields}
 use Rattle.lr_origin.specs.declared.key.KeyKind.{KeyKind}
 use Rattle.lr_origin.specs.declared.key.KeyKind.TheVariants.{Root, Expired, Deleted, Chunk, Manifest, Withdrawn}
 use Rattle.lr_roots.specs.View.{View, Held, Has, Lacks}
@@ -78,7 +78,7 @@ module _ (s : Known) (agrees : Agrees s) where
     pub kept_known : (n : List ℕ) → Lacks v (Withdrawn n) → Lacks s.view (Withdrawn n)
     kept_known n h = elim (lacks_or_has s.view (Withdrawn n)) [ inl away ↦ away | inr here ↦ absurd (no_some _ h (subst IsSome (sym (t.known (Withdrawn n) (mark_certain n here))) here)) ]
 
-    pub whole_there : (r : ℕ) (m : Fields) → Lacks s.view (Deleted r) → IsComplete s.view r m → IsComplete v r m
+    pub whole_there : (r : ℕ) (m : ManifestFields) → Lacks s.view (Deleted r) → IsComplete s.view r m → IsComplete v r m
     whole_there r m live all = λ i d below. let h : Has s.view (Chunk r (get_or m.names i d).bytes) = all i d below in subst IsSome (sym (t.known (Chunk r (get_or m.names i d).bytes) (chunk_certain r (get_or m.names i d).bytes h live))) h
 
   module _ (all : Always s IsSound) where

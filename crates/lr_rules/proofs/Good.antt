@@ -2,7 +2,7 @@
 use Rattle.std.proofs.Common.{◌≡◌, ◌≢◌, ◌<◌, ◌+◌, ℕ, List, Option, Some, None, IsSome, refl, sym, ap, subst, ◌∙◌, inl, inr}
 use mathlib.Core.Logic.{◌⊎◌}
 use Rattle.std.specs.FinMap as fin
-use Rattle.lr_manifest.specs.Manifest.{Fields}
+use Rattle.lr_manifest.specs.Manifest.{ManifestFields}
 use Rattle.lr_origin.specs.Text.{IsKind}
 use Rattle.lr_origin.specs.declared.key.KeyKind.{KeyKind}
 use Rattle.lr_origin.specs.declared.key.KeyKind.TheVariants.{Root, Expired, Deleted, Chunk, Manifest, Withdrawn}
@@ -27,7 +27,7 @@ less_good d e v l g = record {
 
 -- a put of a key that is no manifest
 module _ (d : Desk) (v : View) (k : KeyKind) (x : Held) (g : IsGood d v) (sound : IsSound (fin.insert v k x)) (none : (r : ℕ) (n : List ℕ) → Manifest r n ≢ k)
-    (away : (n : ℕ) (image : List ℕ) (m : Fields) → fin.get d.leases n ≡ Some (image, m) → (h : IsHomed v image) → (Deleted h.0 ≢ k) × (Expired h.0 ≢ k))
+    (away : (n : ℕ) (image : List ℕ) (m : ManifestFields) → fin.get d.leases n ≡ Some (image, m) → (h : IsHomed v image) → (Deleted h.0 ≢ k) × (Expired h.0 ≢ k))
     (free : (n : ℕ) (j : Session) (r : ℕ) → fin.get d.sessions n ≡ Some j → IsRootOf j.job r → Serves v r → (Deleted r ≢ k) × (Expired r ≢ k)) where
   same_manifest : (r : ℕ) (i : List ℕ) → fin.get (fin.insert v k x) (Manifest r i) ≡ fin.get v (Manifest r i)
   same_manifest r i = at_other v k x (Manifest r i) (none r i)
@@ -69,7 +69,7 @@ module _ (d : Desk) (v : View) (g : IsGood d v) where
 
   -- no image that isn't withdrawn, and no leased one, has its home there, and no session rests on it
   pub expired_good : (r : ℕ) → Has v (Root r) → Has v (Root (r + 1)) → ((image : List ℕ) → Lacks v (Withdrawn image) → IsHome v image r → ⊥)
-      → ((n : ℕ) (image : List ℕ) (m : Fields) → fin.get d.leases n ≡ Some (image, m) → IsHome v image r → ⊥)
+      → ((n : ℕ) (image : List ℕ) (m : ManifestFields) → fin.get d.leases n ≡ Some (image, m) → IsHome v image r → ⊥)
       → ((n : ℕ) (j : Session) → fin.get d.sessions n ≡ Some j → IsRootOf j.job r → ⊥)
       → IsGood d (fin.insert v (Expired r) bare)
   expired_good r root next free leases sessions = plain_good d v (Expired r) bare g (expired_sound v r g.sound root next free) (λ r i e. cc)
@@ -77,7 +77,7 @@ module _ (d : Desk) (v : View) (g : IsGood d v) where
       (λ n j q h of s. (λ e. cc, λ e. let f : q ≡ r = cc in sessions n j h (subst (IsRootOf j.job) f of)))
 
   -- a manifest
-  pub manifest_good : (r : ℕ) (image : List ℕ) (m : Fields) → IsKind (Manifest r image) → Serves v r → IsComplete v r m → ((q : ℕ) (y : Held) → fin.get v (Manifest q image) ≡ Some y → y ≡ manifest m)
+  pub manifest_good : (r : ℕ) (image : List ℕ) (m : ManifestFields) → IsKind (Manifest r image) → Serves v r → IsComplete v r m → ((q : ℕ) (y : Held) → fin.get v (Manifest q image) ≡ Some y → y ≡ manifest m)
       → Suits (Manifest r image) (manifest m) → number_of m < d.next_number
       → ((q : ℕ) → Has v (Manifest q image) → ⊥) ⊎ ((q : ℕ) × Has v (Manifest q image))
       → ((n c : ℕ) (q e : ℕ) → fin.get d.sessions n ≡ Some (record { caller = c; job = Creates image q e }) → q ≡ r)
@@ -96,10 +96,10 @@ module _ (d : Desk) (v : View) (g : IsGood d v) where
     numbered = λ q i p h. elim (got v (Manifest r image) (manifest m) (Manifest q i) (manifest p) h) [ inl f ↦ let e : m ≡ p = same_fields m p f.1 in subst (λ p. number_of p < d.next_number) e below | inr o ↦ g.numbered q i p o ];
   }
     where
-      same_fields : (m p : Fields) → manifest m ≡ manifest p → m ≡ p
+      same_fields : (m p : ManifestFields) → manifest m ≡ manifest p → m ≡ p
       same_fields m p e = cc
 
-      lent : {q : ℕ} (i : List ℕ) (p : Fields) → IsLeased v i p → Manifest q i ≡ Manifest r image → manifest m ≡ manifest p
+      lent : {q : ℕ} (i : List ℕ) (p : ManifestFields) → IsLeased v i p → Manifest q i ≡ Manifest r image → manifest m ≡ manifest p
       lent i p l e = by (fin.get v (Manifest l.0.0 i)) refl l.0.1.listed
         where
           by : (o : Option Held) → fin.get v (Manifest l.0.0 i) ≡ o → IsSome o → manifest m ≡ manifest p

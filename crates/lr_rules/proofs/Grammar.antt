@@ -1,7 +1,7 @@
 -- The keys that the depot puts, and those in doubt, are of the grammar, and what is kept is of their kind.
 use Rattle.std.proofs.Common.{◌≡◌, ℕ, List, Some}
 use Rattle.std.specs.FinMap as fin
-use Rattle.lr_manifest.specs.Manifest.{Fields}
+use Rattle.lr_manifest.specs.Manifest.{ManifestFields}
 use Rattle.lr_text.specs.Words.{IsKey}
 use Rattle.lr_origin.specs.Text.{IsRoot, IsKind}
 use Rattle.lr_origin.specs.declared.key.KeyKind.{KeyKind}
@@ -61,7 +61,7 @@ module _ (s : State) (h : IsSafe s) where
     pub creation_kind : (image : List ℕ) (r d : ℕ) → Holds s n c (Creates image r d) → IsKind (Manifest r image)
     creation_kind image r d holds = (target_kind (Creates image r d) holds, h.named n c image r d holds)
 
-    pub move_kind : (image : List ℕ) (from to : ℕ) (m : Fields) → Holds s n c (Moves image from to m) → IsKind (Manifest to image)
+    pub move_kind : (image : List ℕ) (from to : ℕ) (m : ManifestFields) → Holds s n c (Moves image from to m) → IsKind (Manifest to image)
     move_kind image from to m holds =
         let w : Works s.known.view (Moves image from to m) = (view_good s h).works n _ holds in
         (target_kind (Moves image from to m) holds, withdrawn_kind image from (is_some _ (manifest m) w.2))

@@ -2,7 +2,7 @@
 use Rattle.std.proofs.Common.{◌≡◌, ◌+◌, ℕ, List, Option, Some, None, IsSome, refl, sym, ap, subst, ◌∙◌, inl, inr}
 use mathlib.Core.Logic.{◌⊎◌}
 use Rattle.std.specs.FinMap as fin
-use Rattle.lr_manifest.specs.Manifest.{Fields}
+use Rattle.lr_manifest.specs.Manifest.{ManifestFields}
 use Rattle.lr_origin.specs.declared.key.KeyKind.{KeyKind}
 use Rattle.lr_origin.specs.declared.key.KeyKind.TheVariants.{Root, Expired, Deleted, Chunk, Manifest, Withdrawn}
 use Rattle.lr_roots.specs.View.{View, Held, salt, manifest, bare, Lacks}
@@ -11,7 +11,7 @@ use Rattle.lr_roots.specs.Sound.{IsSound}
 use Rattle.lr_rules.specs.Known.{Known, Settles, IsItemOf, accepted, doubting, removed, dismissed}
 use Rattle.lr_rules.specs.State.{State, target}
 use Rattle.lr_rules.specs.Safe.{IsSafe, Keeps}
-use Rattle.lr_rules.specs.Calls.{knows, MaySweep, made, found}
+use Rattle.lr_rules.specs.Calls.{knows, MaySweep, made, settled_there}
 use Rattle.lr_rules.specs.Steps as steps
 use Rattle.lr_rules.specs.Steps.{Steps}
 use Rattle.lr_rules.proofs.Keys.{cases_key, at_key, at_other, gone_other}
@@ -22,7 +22,7 @@ use Rattle.lr_rules.proofs.Calls.{view_good}
 use Rattle.lr_rules.proofs.Manifests.{none_yet}
 
 -- in a sound view all manifests of an image are the one
-pub only_manifest : (v : View) (image : List ℕ) (m : Fields) → IsSound v → (a : ℕ) → fin.get v (Manifest a image) ≡ Some (manifest m) → (p : ℕ) → IsSome (fin.get v (Manifest p image)) → fin.get v (Manifest p image) ≡ Some (manifest m)
+pub only_manifest : (v : View) (image : List ℕ) (m : ManifestFields) → IsSound v → (a : ℕ) → fin.get v (Manifest a image) ≡ Some (manifest m) → (p : ℕ) → IsSome (fin.get v (Manifest p image)) → fin.get v (Manifest p image) ≡ Some (manifest m)
 only_manifest v image m sound a e p has = by (fin.get v (Manifest p image)) refl has
   where
     by : (o : Option Held) → fin.get v (Manifest p image) ≡ o → IsSome o → fin.get v (Manifest p image) ≡ Some (manifest m)
@@ -30,7 +30,7 @@ only_manifest v image m sound a e p has = by (fin.get v (Manifest p image)) refl
     by (Some y) f some = f ∙ ap Some (sound.one_manifest image p a y (manifest m) f e)
 
 -- what a settled doubt that was there leaves known
-pub found_known : (s : State) (k : KeyKind) (x : Held) → (found s k x).known ≡ accepted s.known k x
+pub found_known : (s : State) (k : KeyKind) (x : Held) → (settled_there s k x).known ≡ accepted s.known k x
 found_known s (Manifest r image) (manifest m) = refl
 found_known s (Manifest r image) (salt b) = refl
 found_known s (Manifest r image) bare = refl
@@ -40,13 +40,13 @@ found_known s (Deleted r) x = refl
 found_known s (Chunk r n) x = refl
 found_known s (Withdrawn n) x = refl
 
-pub made_keeps : (s : State) (n : ℕ) (image : List ℕ) (r : ℕ) (m : Fields) → Keeps (made s n image r m) image m
+pub made_keeps : (s : State) (n : ℕ) (image : List ℕ) (r : ℕ) (m : ManifestFields) → Keeps (made s n image r m) image m
 made_keeps s n image r m kept = (r, at_key s.known.view (Manifest r image) (manifest m))
 
-pub found_keeps : (s : State) (r : ℕ) (image : List ℕ) (m : Fields) → Keeps (found s (Manifest r image) (manifest m)) image m
+pub found_keeps : (s : State) (r : ℕ) (image : List ℕ) (m : ManifestFields) → Keeps (settled_there s (Manifest r image) (manifest m)) image m
 found_keeps s r image m kept = (r, at_key s.known.view (Manifest r image) (manifest m))
 
-module _ (s : State) (h : IsSafe s) (image : List ℕ) (m : Fields) (keeps : Keeps s image m) where
+module _ (s : State) (h : IsSafe s) (image : List ℕ) (m : ManifestFields) (keeps : Keeps s image m) where
   -- In each way out of the doubts, an image that isn't withdrawn has a home that serves, and there is its manifest.
   pub home_of_known : (v : View) → Settles s.known v → Lacks v (Withdrawn image) → (r : ℕ) × IsHome v image r × Lacks v (Expired r) × (fin.get v (Manifest r image) ≡ Some (manifest m))
   home_of_known v t kept =
@@ -106,11 +106,11 @@ module _ (s : State) (h : IsSafe s) (image : List ℕ) (m : Fields) (keeps : Kee
   stepped t (steps.Expires r may e) = added (Expired r) bare (λ q f. absurd cc) t _ _ refl refl e
   stepped t (steps.Deletes r may e) = added (Deleted r) bare (λ q f. absurd cc) t _ _ refl refl e
   stepped t (steps.Sweeps r k x may e) = either t (knows s (removed s.known k)) (knows s (doubting s.known k x)) (swept_keeps r k x may) (same_keeps (knows s (doubting s.known k x)) refl) e
-  stepped t (steps.Settles k x may e) = added k x (λ q f. may.absent) t (found s k x) (knows s (dismissed s.known k)) (ap (λ (a : Known). a.view) (found_known s k x)) refl e
+  stepped t (steps.Settles k x may e) = added k x (λ q f. may.absent) t (settled_there s k x) (knows s (dismissed s.known k)) (ap (λ (a : Known). a.view) (found_known s k x)) refl e
   stepped t (steps.Opens i r p may e) = same_keeps t (ap (λ (a : State). a.known.view) e)
   stepped t (steps.BeginsCreate c i r may e) = same_keeps t (ap (λ (a : State). a.known.view) e)
   stepped t (steps.BeginsMove c i from to p may e) = same_keeps t (ap (λ (a : State). a.known.view) e)
   stepped t (steps.Ends d less e) = same_keeps t (ap (λ (a : State). a.known.view) e)
 
-pub step_keeps : (s : State) → IsSafe s → (t : State) → Steps s t → (image : List ℕ) (m : Fields) → Keeps s image m → Keeps t image m
+pub step_keeps : (s : State) → IsSafe s → (t : State) → Steps s t → (image : List ℕ) (m : ManifestFields) → Keeps s image m → Keeps t image m
 step_keeps s h t step image m keeps = stepped s h image m keeps t step

@@ -4,7 +4,7 @@ use mathlib.Core.Logic.{◌⊎◌}
 use Rattle.std.specs.FinMap as fin
 use Rattle.std.specs.FinMap.{FinMap}
 use Rattle.std.specs.Ordering.{nat_cmp}
-use Rattle.lr_manifest.specs.Manifest.{Fields, IsManifest}
+use Rattle.lr_manifest.specs.Manifest.{ManifestFields, IsManifest}
 use Rattle.lr_origin.specs.Text.{IsKind}
 use Rattle.lr_origin.specs.declared.key.KeyKind.{KeyKind}
 use Rattle.lr_origin.specs.declared.key.KeyKind.TheVariants.{Root, Expired, Deleted, Chunk, Manifest, Withdrawn}
@@ -15,7 +15,7 @@ use Rattle.lr_roots.specs.Sound.{maker_of, IsNumbered, Suits}
 use Rattle.lr_rules.specs.Known.{Settles, Always, Serves, accepted, doubting, dismissed}
 use Rattle.lr_rules.specs.State.{Creates, Moves, Session, Desk, State, Holds, Less}
 use Rattle.lr_rules.specs.Safe.{Works, IsGood, IsSafe}
-use Rattle.lr_rules.specs.Calls.{knows, MayMake, MayMove, MaySettle, made, making, found, ended}
+use Rattle.lr_rules.specs.Calls.{knows, MayMake, MayMove, MaySettle, made, making, settled_there, ended}
 use Rattle.lr_rules.proofs.Keys.{no_some, cases_key, cases_n, at_key, at_other, gone_n, gone_other_n}
 use Rattle.lr_rules.proofs.Outcomes.{not_both, is_some, view_settles, one_settles, put_accepted, put_doubting, again_accepted, settled_absent}
 use Rattle.lr_rules.proofs.Sound.{still_serves}
@@ -24,7 +24,7 @@ use Rattle.lr_rules.proofs.Facts.{whole_there}
 use Rattle.lr_rules.proofs.Doubts.{same_some, KeepsServing, still_unsure, accepted_agrees, doubting_agrees, dismissed_agrees, accepted_whole, doubting_whole, dismissed_whole, accepted_listed, doubting_listed, dismissed_listed}
 use Rattle.lr_rules.proofs.Calls.{all_sound, view_good, knows_safe, again_safe}
 
-pub same_fields : (m p : Fields) → manifest m ≡ manifest p → m ≡ p
+pub same_fields : (m p : ManifestFields) → manifest m ≡ manifest p → m ≡ p
 same_fields m p e = cc
 
 same_root : (b c : ℕ) (i : List ℕ) (q r e d : ℕ) → ◌≡◌ {A = Option Session} (Some (record { caller = b; job = Creates i q e })) (Some (record { caller = c; job = Creates i r d })) → q ≡ r
@@ -44,11 +44,11 @@ ended_fewer sessions (Some n) k j e = (fewer sessions n k j e).1
 
 module _ (s : State) (h : IsSafe s) where
   -- a manifest leaves roots as they are
-  serve_listed : (r : ℕ) (image : List ℕ) (m : Fields) (q : ℕ) (v : View) → Settles s.known v → Serves v q → Serves (fin.insert v (Manifest r image) (manifest m)) q
+  serve_listed : (r : ℕ) (image : List ℕ) (m : ManifestFields) (q : ℕ) (v : View) → Settles s.known v → Serves v q → Serves (fin.insert v (Manifest r image) (manifest m)) q
   serve_listed r image m q v t = still_serves v (Manifest r image) (manifest m) q (λ e. cc) (λ e. cc)
 
   -- A manifest is acknowledged or found there, and the sessions that remain make no manifest of its key.
-  module _ (r : ℕ) (image : List ℕ) (m : Fields) (sessions : FinMap nat_cmp Session)
+  module _ (r : ℕ) (image : List ℕ) (m : ManifestFields) (sessions : FinMap nat_cmp Session)
       (good : Always (accepted s.known (Manifest r image) (manifest m)) (IsGood s.desk))
       (serving : KeepsServing s.known (accepted s.known (Manifest r image) (manifest m)))
       (sub : (n : ℕ) (j : Session) → fin.get sessions n ≡ Some j → fin.get s.desk.sessions n ≡ Some j)
@@ -87,7 +87,7 @@ module _ (s : State) (h : IsSafe s) where
     }
 
   -- A manifest's put failed: the session is its maker, and it makes no manifest of another root in doubt.
-  module _ (n : ℕ) (image : List ℕ) (r : ℕ) (m : Fields) (away : Lacks s.known.view (Manifest r image)) (sure : fin.get s.known.doubts (Manifest r image) ≡ None)
+  module _ (n : ℕ) (image : List ℕ) (r : ℕ) (m : ManifestFields) (away : Lacks s.known.view (Manifest r image)) (sure : fin.get s.known.doubts (Manifest r image) ≡ None)
       (step : (v : View) → Settles s.known v → IsGood s.desk v → IsGood s.desk (fin.insert v (Manifest r image) (manifest m)))
       (serves : (v : View) → Settles s.known v → Serves v r) (whole : IsComplete s.known.view r m)
       (own : (k b e : ℕ) → Holds s k b (Creates image r e) → k ≡ n) where
@@ -126,7 +126,7 @@ module _ (s : State) (h : IsSafe s) where
     }
 
   -- the manifest of a creation
-  module _ (n c : ℕ) (image : List ℕ) (r d : ℕ) (m : Fields) (may : MayMake s n c image r d m) where
+  module _ (n c : ℕ) (image : List ℕ) (r d : ℕ) (m : ManifestFields) (may : MayMake s n c image r d m) where
     own_works : (v : View) → Settles s.known v → Works v (Creates image r d)
     own_works v t = (h.good v t).works n _ may.session
 
@@ -172,7 +172,7 @@ module _ (s : State) (h : IsSafe s) where
     making_safe = manifest_doubted n image r m away may.sure make_step (λ v t. (own_works v t).0) may.whole (λ k b e j. h.alone k n b c image r r e d j may.session)
 
   -- the manifest of a move
-  module _ (n c : ℕ) (image : List ℕ) (from to : ℕ) (m : Fields) (may : MayMove s n c image from to m) where
+  module _ (n c : ℕ) (image : List ℕ) (from to : ℕ) (m : ManifestFields) (may : MayMove s n c image from to m) where
     moves : (v : View) → Settles s.known v → Works v (Moves image from to m)
     moves v t = (h.good v t).works n _ may.session
 
@@ -222,7 +222,7 @@ module _ (s : State) (h : IsSafe s) where
     moving_safe = manifest_doubted n image to m none_yet may.sure move_step (λ v t. (moves v t).1) may.whole (λ k b e j. absurd (no_creation k b to e j))
 
   -- a settled manifest was there
-  there_manifest : (r : ℕ) (image : List ℕ) (m : Fields) → MaySettle s (Manifest r image) (manifest m) → IsSafe (found s (Manifest r image) (manifest m))
+  there_manifest : (r : ℕ) (image : List ℕ) (m : ManifestFields) → MaySettle s (Manifest r image) (manifest m) → IsSafe (settled_there s (Manifest r image) (manifest m))
   there_manifest r image m may = manifest_known r image m (ended s.desk.sessions (fin.get s.desk.makers (Manifest r image)))
       (again_accepted s.known (Manifest r image) (manifest m) may.here (IsGood s.desk) h.good)
       (λ q i p e. again_accepted s.known (Manifest r image) (manifest m) may.here (λ v. Serves v q))
@@ -239,7 +239,7 @@ module _ (s : State) (h : IsSafe s) where
   pub doubt_suits : (k : KeyKind) (x : Held) → fin.get s.known.doubts k ≡ Some x → Suits k x
   doubt_suits k x here = (all_sound s h _ (one_settles s.known k x h.agrees here)).fits k x (at_key s.known.view k x)
 
-  pub there_safe : (k : KeyKind) (x : Held) → MaySettle s k x → IsSafe (found s k x)
+  pub there_safe : (k : KeyKind) (x : Held) → MaySettle s k x → IsSafe (settled_there s k x)
   there_safe (Manifest r image) (manifest m) may = there_manifest r image m may
   there_safe (Manifest r image) (salt b) may = absurd (doubt_suits (Manifest r image) (salt b) may.here)
   there_safe (Manifest r image) bare may = absurd (doubt_suits (Manifest r image) bare may.here)

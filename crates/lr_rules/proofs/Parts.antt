@@ -2,7 +2,7 @@
 use Rattle.std.proofs.Common.{◌≡◌, ◌≢◌, ◌<◌, ℕ, List, Option, Some, None, IsSome, refl, sym, ap, subst, ◌∙◌, inl, inr}
 use mathlib.Core.Logic.{◌⊎◌}
 use Rattle.std.specs.FinMap as fin
-use Rattle.lr_manifest.specs.Manifest.{Fields}
+use Rattle.lr_manifest.specs.Manifest.{ManifestFields}
 use Rattle.lr_origin.specs.declared.key.KeyKind.{KeyKind}
 use Rattle.lr_origin.specs.declared.key.KeyKind.TheVariants.{Expired, Deleted, Manifest}
 use Rattle.lr_roots.specs.View.{View, Held, salt, manifest, bare, Has, Lacks}
@@ -11,7 +11,7 @@ use Rattle.lr_roots.specs.Names.{number_of}
 use Rattle.lr_rules.specs.Known.{Settles, Serves, IsItemOf}
 use Rattle.lr_rules.specs.State.{Job, Creates, Moves, State, IsRootOf}
 use Rattle.lr_rules.specs.Safe.{Works, IsGood, IsSafe}
-use Rattle.lr_rules.specs.Parts.{IsOwed, IsFree, HasParts}
+use Rattle.lr_rules.specs.Parts.{IsOwedInView, IsFree, HasParts}
 use Rattle.lr_rules.proofs.Keys.{no_some, cases_key, at_key, at_other}
 use Rattle.lr_rules.proofs.Outcomes.{not_both, view_settles, with_settles, one_settles}
 use Rattle.lr_rules.proofs.Sound.{there, home_stays}
@@ -50,7 +50,7 @@ module _ (s : State) (h : IsSafe s) where
     unsure image (salt b) e away = doubt_suits s h (Manifest r image) (salt b) e
     unsure image bare e away = doubt_suits s h (Manifest r image) bare e
 
-    unowed : (image : List ℕ) → IsOwed s image → IsHome s.known.view image r → ⊥
+    unowed : (image : List ℕ) → IsOwedInView s image → IsHome s.known.view image r → ⊥
     unowed image (inl o) home = gone_serves (home_serves s.known h.agrees (all_sound s h) image r home o.0 gone gone_settles)
     unowed image (inr o) home =
         let moved : IsHome gone image r = home_stays s.known.view (Expired r) x (view_good s h).sound image r (λ e. cc) (λ q more e. cc) home in
@@ -64,7 +64,7 @@ module _ (s : State) (h : IsSafe s) where
       unowed = unowed;
     }
 
-  homed : (image : List ℕ) → IsOwed s image → IsHomed s.known.view image
+  homed : (image : List ℕ) → IsOwedInView s image → IsHomed s.known.view image
   homed image (inl o) = (view_good s h).sound.homed image o.1.0 o.1.1 o.0
   homed image (inr o) = ((view_good s h).leased o.0 image o.1 o.2).0
 
@@ -98,7 +98,7 @@ module _ (s : State) (h : IsSafe s) where
   equal image q r x y (inr a) (inl b) = sym (known_doubted image r q y x b a)
   equal image q r x y (inr a) (inr b) = both_doubted image q r x y a b
 
-  numbers : (r : ℕ) (image : List ℕ) (m : Fields) → (fin.get s.known.view (Manifest r image) ≡ Some (manifest m)) ⊎ (fin.get s.known.doubts (Manifest r image) ≡ Some (manifest m)) → number_of m < s.desk.next_number
+  numbers : (r : ℕ) (image : List ℕ) (m : ManifestFields) → (fin.get s.known.view (Manifest r image) ≡ Some (manifest m)) ⊎ (fin.get s.known.doubts (Manifest r image) ≡ Some (manifest m)) → number_of m < s.desk.next_number
   numbers r image m (inl e) = (view_good s h).numbered r image m e
   numbers r image m (inr e) = (h.good _ (one_settles s.known (Manifest r image) (manifest m) h.agrees e)).numbered r image m (at_key s.known.view (Manifest r image) (manifest m))
 
@@ -112,4 +112,5 @@ module _ (s : State) (h : IsSafe s) where
     deletions = λ k some has. let y : (y : Held) × (fin.get s.known.doubts k ≡ Some y) = some_of _ some in deletions k y.0 y.1 has;
     equal = equal;
     numbers = numbers;
+    drawn = λ n c image r d j. (h.drawn n c image r d j).1;
   }

@@ -4,7 +4,7 @@ use mathlib.Core.Logic.{◌⊎◌}
 use Rattle.std.specs.Ordering.{nat_cmp}
 use Rattle.std.specs.FinMap as fin
 use Rattle.std.specs.FinMap.{get-empty}
-use Rattle.lr_manifest.specs.Manifest.{Fields}
+use Rattle.lr_manifest.specs.Manifest.{ManifestFields}
 use Rattle.lr_origin.specs.Kind.{kind_cmp}
 use Rattle.lr_origin.specs.declared.key.KeyKind.{KeyKind}
 use Rattle.lr_origin.specs.declared.key.KeyKind.TheVariants.{Root, Expired, Deleted, Chunk, Manifest, Withdrawn}
@@ -14,7 +14,7 @@ use Rattle.lr_rules.specs.Known.{accepted, doubting, removed, dismissed}
 use Rattle.lr_rules.specs.State.{Creates, Moves, Session, State, Holds, target}
 use Rattle.lr_rules.specs.Names.{IsUnsure, IsImage, HasRoom}
 use Rattle.lr_rules.specs.Safe.{Works, IsSafe}
-use Rattle.lr_rules.specs.Calls.{knows, began, found}
+use Rattle.lr_rules.specs.Calls.{knows, began, settled_there}
 use Rattle.lr_rules.specs.Start.{started}
 use Rattle.lr_rules.specs.Steps as steps
 use Rattle.lr_rules.specs.Steps.{Steps}
@@ -148,7 +148,7 @@ module _ (s : State) where
       ]
 
   -- a move begins
-  moved_room : (c : ℕ) (image : List ℕ) (from to : ℕ) (m : Fields) (next : ℕ) → HasRoom s → HasRoom (began s c (Moves image from to m) next)
+  moved_room : (c : ℕ) (image : List ℕ) (from to : ℕ) (m : ManifestFields) (next : ℕ) → HasRoom s → HasRoom (began s c (Moves image from to m) next)
   moved_room c image from to m next = fewer_pass (IsImage (began s c (Moves image from to m) next)) (IsImage s) (2 ^ 32) within
     where
       other : (i : List ℕ) (q d : ℕ) → Moves image from to m ≡ Creates i q d → ⊥
@@ -172,7 +172,7 @@ doubt_names s h (Deleted r) x here image e = absurd e
 doubt_names s h (Chunk r n) x here image e = absurd e
 
 -- no session is new where a settled doubt was there
-found_sessions : (s : State) (k : KeyKind) (x : Held) (n : ℕ) (j : Session) → fin.get (found s k x).desk.sessions n ≡ Some j → fin.get s.desk.sessions n ≡ Some j
+found_sessions : (s : State) (k : KeyKind) (x : Held) (n : ℕ) (j : Session) → fin.get (settled_there s k x).desk.sessions n ≡ Some j → fin.get s.desk.sessions n ≡ Some j
 found_sessions s (Manifest r i) (manifest m) n j e = ended_fewer s.desk.sessions (fin.get s.desk.makers (Manifest r i)) n j e
 found_sessions s (Manifest r i) (salt b) n j e = e
 found_sessions s (Manifest r i) bare n j e = e
@@ -184,7 +184,7 @@ found_sessions s (Withdrawn i) x n j e = e
 
 module _ (s : State) (h : IsSafe s) where
   -- the image of a move
-  pub move_names : (n c : ℕ) (image : List ℕ) (from to : ℕ) (m : Fields) → Holds s n c (Moves image from to m) → (i : List ℕ) → Names (Manifest to image) i → IsImage s i
+  pub move_names : (n c : ℕ) (image : List ℕ) (from to : ℕ) (m : ManifestFields) → Holds s n c (Moves image from to m) → (i : List ℕ) → Names (Manifest to image) i → IsImage s i
   move_names n c image from to m holds i e = let w : Works s.known.view (Moves image from to m) = (view_good s h).works n _ holds in listed_names s from image (is_some _ (manifest m) w.2) i e
 
   pub step_room : (t : State) → Steps s t → HasRoom s → HasRoom t
@@ -197,7 +197,7 @@ module _ (s : State) (h : IsSafe s) where
   step_room t (steps.Deletes r may e) room = put_room s (Deleted r) bare (λ i f. absurd f) t _ _ refl (λ k j f. f) refl refl e room
   step_room t (steps.Sweeps r k x may (inl e)) room = subst HasRoom (sym e) (room_within s (knows s (removed s.known k)) (λ i named. inl (named.0, was_there s.known.view k named.0 named.1, named.2)) (unsure_less s k) (λ n j f. f) room)
   step_room t (steps.Sweeps r k x may (inr e)) room = subst HasRoom (sym e) (room_within s (knows s (doubting s.known k x)) (λ i named. inl named) (unsure_put s k x (λ i f. inl (k, is_some _ x may.here, f))) (λ n j f. f) room)
-  step_room t (steps.Settles k x may (inl e)) room = put_room s k x (doubt_names s h k x may.here) t (found s k x) (knows s (doubting s.known k x)) (found_known s k x) (found_sessions s k x) refl refl (inl e) room
+  step_room t (steps.Settles k x may (inl e)) room = put_room s k x (doubt_names s h k x may.here) t (settled_there s k x) (knows s (doubting s.known k x)) (found_known s k x) (found_sessions s k x) refl refl (inl e) room
   step_room t (steps.Settles k x may (inr e)) room = subst HasRoom (sym e) (room_within s (knows s (dismissed s.known k)) (λ i named. inl named) (unsure_less s k) (λ n j f. f) room)
   step_room t (steps.Opens image r m may e) room = subst HasRoom (sym e) room
   step_room t (steps.BeginsCreate c image r may e) room = subst HasRoom (sym e) (begun_room s c image r (s.desk.next_number + 1) may.few)

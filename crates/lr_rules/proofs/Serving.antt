@@ -1,7 +1,7 @@
 -- What the calls of leases and sessions find: homes, manifests and chunks, in the view and in each way out.
 use Rattle.std.proofs.Common.{◌≡◌, ℕ, List, Option, Some, None, IsSome, refl, sym, ap, subst, ◌∙◌}
 use Rattle.std.specs.FinMap as fin
-use Rattle.lr_manifest.specs.Manifest.{Fields}
+use Rattle.lr_manifest.specs.Manifest.{ManifestFields}
 use Rattle.lr_origin.specs.declared.key.KeyKind.TheVariants.{Deleted, Chunk, Manifest, Withdrawn}
 use Rattle.lr_roots.specs.View.{View, Held, manifest, Has, Lacks}
 use Rattle.lr_roots.specs.Roots.{IsHome, IsHomed, IsComplete}
@@ -13,7 +13,7 @@ use Rattle.lr_rules.proofs.Facts.{whole_there, chunk_certain}
 use Rattle.lr_rules.proofs.Calls.{view_good}
 
 -- under a home of a lease's image stands the lease's manifest, with its chunks
-lease_there : (v : View) (image : List ℕ) (m : Fields) → IsSound v → IsLeased v image m → (r : ℕ) → IsHome v image r → IsComplete v r m × (fin.get v (Manifest r image) ≡ Some (manifest m))
+lease_there : (v : View) (image : List ℕ) (m : ManifestFields) → IsSound v → IsLeased v image m → (r : ℕ) → IsHome v image r → IsComplete v r m × (fin.get v (Manifest r image) ≡ Some (manifest m))
 lease_there v image m sound leased r home = let e : fin.get v (Manifest r image) ≡ Some (manifest m) = by (fin.get v (Manifest r image)) refl home.listed in (sound.complete image r m home.live e, e)
   where
     by : (o : Option Held) → fin.get v (Manifest r image) ≡ o → IsSome o → fin.get v (Manifest r image) ≡ Some (manifest m)
@@ -26,7 +26,7 @@ module _ (s : State) (h : IsSafe s) where
   listed_home image q = (view_good s h).sound.homed image q
 
   -- leases
-  module _ (n : ℕ) (image : List ℕ) (m : Fields) (lease : fin.get s.desk.leases n ≡ Some (image, m)) where
+  module _ (n : ℕ) (image : List ℕ) (m : ManifestFields) (lease : fin.get s.desk.leases n ≡ Some (image, m)) where
     pub leased_home : IsHomed s.known.view image
     leased_home = ((view_good s h).leased n image m lease).0
 
@@ -46,7 +46,7 @@ module _ (s : State) (h : IsSafe s) where
     pub creation_serves : (image : List ℕ) (r d : ℕ) → Holds s n c (Creates image r d) → Serves s.known.view r × ((q : ℕ) → Has s.known.view (Manifest q image) → q ≡ r)
     creation_serves image r d holds = (view_good s h).works n _ holds
 
-    pub move_serves : (image : List ℕ) (from to : ℕ) (m : Fields) → Holds s n c (Moves image from to m) → Works s.known.view (Moves image from to m)
+    pub move_serves : (image : List ℕ) (from to : ℕ) (m : ManifestFields) → Holds s n c (Moves image from to m) → Works s.known.view (Moves image from to m)
     move_serves image from to m holds = (view_good s h).works n _ holds
 
     -- the root into which a session puts serves in each way out

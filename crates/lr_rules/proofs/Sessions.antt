@@ -2,7 +2,7 @@
 use Rattle.std.proofs.Common.{◌≡◌, ◌≢◌, ◌≤◌, ◌<◌, ◌+◌, ℕ, List, Option, Some, None, IsSome, IsTrue, refl, sym, ap, subst, ◌∙◌, inl, inr, arith}
 use mathlib.Core.Logic.{◌⊎◌}
 use Rattle.std.specs.FinMap as fin
-use Rattle.lr_manifest.specs.Manifest.{Fields}
+use Rattle.lr_manifest.specs.Manifest.{ManifestFields}
 use Rattle.lr_text.specs.Name.{is_name}
 use Rattle.lr_origin.specs.declared.key.KeyKind.TheVariants.{Manifest}
 use Rattle.lr_roots.specs.View.{View, manifest, Has, Lacks}
@@ -55,7 +55,7 @@ module _ (s : State) (h : IsSafe s) where
     made = λ n c i r d j some. ap (λ m. fin.get m (Manifest r i)) l.makers ∙ h.made n c i r d (l.sessions n _ j) some;
   }
     where
-      lease : (n : ℕ) (o : Option (List ℕ × Fields)) → fin.get e.leases n ≡ o → IsSome o → IsSome (fin.get s.desk.leases n)
+      lease : (n : ℕ) (o : Option (List ℕ × ManifestFields)) → fin.get e.leases n ≡ o → IsSome o → IsSome (fin.get s.desk.leases n)
       lease n None f has = absurd cc
       lease n (Some x) f has = is_some _ x (l.leases n x f)
 
@@ -64,7 +64,7 @@ module _ (s : State) (h : IsSafe s) where
       session n (Some x) f has = is_some _ x (l.sessions n x f)
 
   -- a lease begins
-  pub open_safe : (image : List ℕ) (r : ℕ) (m : Fields) → MayOpen s image r m → IsSafe (opened s image m)
+  pub open_safe : (image : List ℕ) (r : ℕ) (m : ManifestFields) → MayOpen s image r m → IsSafe (opened s image m)
   open_safe image r m may = record {
     good = λ v t. record {
       sound = (h.good v t).sound;
@@ -94,7 +94,7 @@ module _ (s : State) (h : IsSafe s) where
         λ q y e. (h.good v t).sound.one_manifest image q r y (manifest m) e (t.known (Manifest r image) (manifest_certain s.known h.agrees r image may.home.listed may.home.live.1) ∙ may.listed),
       )
 
-      leased : (v : View) → Settles s.known v → (n : ℕ) (i : List ℕ) (p : Fields) → fin.get (fin.insert s.desk.leases s.desk.next_lease (image, m)) n ≡ Some (i, p) → (n ≡ s.desk.next_lease) ⊎ (n ≢ s.desk.next_lease) → IsLeased v i p
+      leased : (v : View) → Settles s.known v → (n : ℕ) (i : List ℕ) (p : ManifestFields) → fin.get (fin.insert s.desk.leases s.desk.next_lease (image, m)) n ≡ Some (i, p) → (n ≡ s.desk.next_lease) ⊎ (n ≢ s.desk.next_lease) → IsLeased v i p
       leased v t n i p e (inr ne) = (h.good v t).leased n i p (sym (other_n s.desk.leases s.desk.next_lease (image, m) n ne) ∙ e)
       leased v t n i p e (inl f) =
           let g : (image, m) ≡ (i, p) = same_some (image, m) (i, p) (sym (at_n s.desk.leases s.desk.next_lease (image, m)) ∙ ap (fin.get (fin.insert s.desk.leases s.desk.next_lease (image, m))) (sym f) ∙ e) in
@@ -175,7 +175,7 @@ module _ (s : State) (h : IsSafe s) where
           (subst (λ i. ¬ (IsImage s i)) f may.new, subst (λ i. IsTrue (is_name i)) f may.named, (omega (arith, h.first_number, k), omega (arith, k)))
 
   -- a move begins
-  pub begin_move_safe : (c : ℕ) (image : List ℕ) (from to : ℕ) (m : Fields) → MayCopy s image from to m → IsSafe (began s c (Moves image from to m) s.desk.next_number)
+  pub begin_move_safe : (c : ℕ) (image : List ℕ) (from to : ℕ) (m : ManifestFields) → MayCopy s image from to m → IsSafe (began s c (Moves image from to m) s.desk.next_number)
   begin_move_safe c image from to m may = begin_safe c (Moves image from to m) s.desk.next_number (omega arith) h.few
       (λ v t. (home_serves s.known h.agrees (all_sound s h) image from may.home may.kept v t, active_serves s.known h.agrees (all_sound s h) to (omega (arith, may.retired)) may.roots v t, t.known (Manifest from image) (manifest_certain s.known h.agrees from image may.home.listed may.home.live.1) ∙ may.listed, may.retired))
       (λ i q d e. absurd (cc))

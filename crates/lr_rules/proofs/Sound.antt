@@ -2,7 +2,7 @@
 use Rattle.std.proofs.Common.{◌≡◌, ◌≢◌, ◌≤◌, ◌<◌, ◌+◌, ℕ, List, Option, Some, None, IsSome, refl, sym, ap, subst, ◌∙◌, inl, inr, arith, get_or}
 use mathlib.Core.Logic.{◌⊎◌}
 use Rattle.std.specs.FinMap as fin
-use Rattle.lr_manifest.specs.Manifest.{Fields}
+use Rattle.lr_manifest.specs.Manifest.{ManifestFields}
 use Rattle.lr_origin.specs.Text.{IsKind}
 use Rattle.lr_origin.specs.declared.key.KeyKind.{KeyKind}
 use Rattle.lr_origin.specs.declared.key.KeyKind.TheVariants.{Root, Expired, Deleted, Chunk, Manifest, Withdrawn}
@@ -63,7 +63,7 @@ module _ (v : View) (k : KeyKind) (x : Held) where
   pub still_serves : (r : ℕ) → Deleted r ≢ k → Expired r ≢ k → Serves v r → Serves (fin.insert v k x) r
   still_serves r ne me h = (stays (Root r) h.0, lacks (Deleted r) ne h.1, lacks (Expired r) me h.2)
 
-  pub all_stay : (r : ℕ) (m : Fields) → IsComplete v r m → IsComplete (fin.insert v k x) r m
+  pub all_stay : (r : ℕ) (m : ManifestFields) → IsComplete v r m → IsComplete (fin.insert v k x) r m
   all_stay r m all = λ i d below. stays (Chunk r (get_or m.names i d).bytes) (all i d below)
 
 -- What a put has to meet.
@@ -73,7 +73,7 @@ pub record MayAdd (v : View) (k : KeyKind) (x : Held) : Type 0 where
   pub below : (r q : ℕ) → root_of k ≡ Some r → 1 ≤ q → q ≤ r → Has (fin.insert v k x) (Root q)
   pub deleted : (r : ℕ) → Deleted r ≡ k → Has v (Expired r)
   pub expired : (r : ℕ) → Expired r ≡ k → Has v (Root (r + 1))
-  pub listed : (r : ℕ) (n : List ℕ) → Manifest r n ≡ k → ((m : Fields) → x ≡ manifest m → IsComplete v r m) × ((q : ℕ) (y : Held) → fin.get v (Manifest q n) ≡ Some y → y ≡ x)
+  pub listed : (r : ℕ) (n : List ℕ) → Manifest r n ≡ k → ((m : ManifestFields) → x ≡ manifest m → IsComplete v r m) × ((q : ℕ) (y : Held) → fin.get v (Manifest q n) ≡ Some y → y ≡ x)
 
 module _ (v : View) (k : KeyKind) (x : Held) (s : IsSound v) where
   -- the home stays
@@ -108,7 +108,7 @@ module _ (v : View) (k : KeyKind) (x : Held) (s : IsSound v) where
       one image q r y z (inr a) (inl b) = (may.listed r image b.0).1 q y a ∙ b.1
       one image q r y z (inr a) (inr b) = s.one_manifest image q r y z a b
 
-      whole : (image : List ℕ) (r : ℕ) (m : Fields) → IsLive (fin.insert v k x) r → ((Manifest r image ≡ k) × (x ≡ manifest m)) ⊎ (fin.get v (Manifest r image) ≡ Some (manifest m)) → IsComplete v r m
+      whole : (image : List ℕ) (r : ℕ) (m : ManifestFields) → IsLive (fin.insert v k x) r → ((Manifest r image ≡ k) × (x ≡ manifest m)) ⊎ (fin.get v (Manifest r image) ≡ Some (manifest m)) → IsComplete v r m
       whole image r m live (inl a) = (may.listed r image a.0).0 m a.1
       whole image r m live (inr b) = s.complete image r m (was_live v k x r (listed_root v s r image (is_some _ (manifest m) b)) live) b
 
@@ -190,7 +190,7 @@ expired_sound v r s root next free = plain_sound v (Expired r) bare s (record {
 }) (λ q m e. cc) (λ i q h kept home. (λ e. cc, λ e. let f : home.0 ≡ r = cc in free i kept (subst (IsHome v i) f home.1)))
 
 -- a manifest under a root that serves: its chunks are there, and the image's other manifests are the same
-module _ (v : View) (r : ℕ) (image : List ℕ) (m : Fields) (s : IsSound v) (serves : Serves v r)
+module _ (v : View) (r : ℕ) (image : List ℕ) (m : ManifestFields) (s : IsSound v) (serves : Serves v r)
     (whole : IsComplete v r m) (same : (q : ℕ) (y : Held) → fin.get v (Manifest q image) ≡ Some y → y ≡ manifest m) where
   other_homed : (i : List ℕ) → i ≢ image → IsHomed v i → IsHomed (fin.insert v (Manifest r image) (manifest m)) i
   other_homed i ne h = homed_stays v (Manifest r image) (manifest m) s i h (λ e. cc) (λ e. cc) (λ q more e. ne cc)
@@ -246,7 +246,7 @@ module _ (v : View) (r : ℕ) (image : List ℕ) (m : Fields) (s : IsSound v) (s
     listed = λ q i e. let f : q ≡ r = cc in let g : i ≡ image = cc in (λ p own. subst (λ q. IsComplete v q p) (sym f) (subst (IsComplete v r) (same_fields p own) whole), λ p y h. same p y (subst (λ i. fin.get v (Manifest p i) ≡ Some y) g h));
   }) (λ i q listed kept. by i q (cases_image i image) listed kept)
     where
-      same_fields : (p : Fields) → manifest m ≡ manifest p → m ≡ p
+      same_fields : (p : ManifestFields) → manifest m ≡ manifest p → m ≡ p
       same_fields p e = cc
 
       own : Lacks v (Withdrawn image) → ((q : ℕ) → Has v (Manifest q image) → ⊥) ⊎ ((q : ℕ) × Has v (Manifest q image)) → IsHomed (fin.insert v (Manifest r image) (manifest m)) image
@@ -309,7 +309,7 @@ module _ (v : View) (k : KeyKind) (r : ℕ) (s : IsSound v) (item : IsItemOf r k
     left_out (Expired h.0) h.2,
   )
 
-  pub whole_left : (q : ℕ) (m : Fields) → IsLive v q → IsComplete v q m → IsComplete (fin.remove v k) q m
+  pub whole_left : (q : ℕ) (m : ManifestFields) → IsLive v q → IsComplete v q m → IsComplete (fin.remove v k) q m
   whole_left q m live all = λ i d below. left (Chunk q (get_or m.names i d).bytes) (not_live q live (Chunk q (get_or m.names i d).bytes) refl) (all i d below)
 
   pub serves_left : (q : ℕ) → Serves v q → Serves (fin.remove v k) q

@@ -3,7 +3,7 @@ use Rattle.std.specs.Prelude.{◌≡◌, ◌≤◌, ◌<◌, ◌+◌, ℕ, List,
 use Rattle.std.specs.FinMap as map
 use Rattle.std.specs.FinMap.{FinMap}
 use Rattle.std.specs.Ordering.{nat_cmp}
-use Rattle.lr_manifest.specs.Manifest.{Fields, IsManifest}
+use Rattle.lr_manifest.specs.Manifest.{ManifestFields, IsManifest}
 use Rattle.lr_text.specs.Name.{is_name}
 use Rattle.lr_origin.specs.Text.{IsKind}
 use Rattle.lr_origin.specs.declared.key.KeyKind.{KeyKind}
@@ -37,7 +37,7 @@ pub record MayPut (s : State) (n c : ℕ) (j : Job) (k : KeyKind) : Type 0 where
   pub kind : IsKind k
   pub absent : Lacks s.known.view k
 
-pub record MayMake (s : State) (n c : ℕ) (image : List ℕ) (r d : ℕ) (m : Fields) : Type 0 where
+pub record MayMake (s : State) (n c : ℕ) (image : List ℕ) (r d : ℕ) (m : ManifestFields) : Type 0 where
   pub session : Holds s n c (Creates image r d)
   pub kind : IsManifest m
   pub root : maker_of m ≡ r
@@ -45,7 +45,7 @@ pub record MayMake (s : State) (n c : ℕ) (image : List ℕ) (r d : ℕ) (m : F
   pub sure : map.get s.known.doubts (Manifest r image) ≡ None
   pub whole : IsComplete s.known.view r m
 
-pub record MayMove (s : State) (n c : ℕ) (image : List ℕ) (from to : ℕ) (m : Fields) : Type 0 where
+pub record MayMove (s : State) (n c : ℕ) (image : List ℕ) (from to : ℕ) (m : ManifestFields) : Type 0 where
   pub session : Holds s n c (Moves image from to m)
   pub home : IsHome s.known.view image from
   pub sure : map.get s.known.doubts (Manifest to image) ≡ None
@@ -61,7 +61,7 @@ pub record MayExpire (s : State) (r : ℕ) : Type 0 where
   pub live : Lacks s.known.view (Deleted r)
   pub serving : Lacks s.known.view (Expired r)
   pub unserved : (image : List ℕ) → Lacks s.known.view (Withdrawn image) → IsHome s.known.view image r → ⊥
-  pub unleased : (n : ℕ) (image : List ℕ) (m : Fields) → map.get s.desk.leases n ≡ Some (image, m) → IsHome s.known.view image r → ⊥
+  pub unleased : (n : ℕ) (image : List ℕ) (m : ManifestFields) → map.get s.desk.leases n ≡ Some (image, m) → IsHome s.known.view image r → ⊥
   pub free : (n : ℕ) (j : Session) → map.get s.desk.sessions n ≡ Some j → IsRootOf j.job r → ⊥
   pub sure : (image : List ℕ) → map.get s.known.doubts (Manifest r image) ≡ None
 
@@ -79,7 +79,7 @@ pub record MaySettle (s : State) (k : KeyKind) (x : Held) : Type 0 where
   pub here : map.get s.known.doubts k ≡ Some x
   pub absent : Lacks s.known.view k
 
-pub record MayOpen (s : State) (image : List ℕ) (r : ℕ) (m : Fields) : Type 0 where
+pub record MayOpen (s : State) (image : List ℕ) (r : ℕ) (m : ManifestFields) : Type 0 where
   pub home : IsHome s.known.view image r
   pub kept : Lacks s.known.view (Withdrawn image)
   pub listed : map.get s.known.view (Manifest r image) ≡ Some (manifest m)
@@ -92,7 +92,7 @@ pub record MayBegin (s : State) (image : List ℕ) (r : ℕ) : Type 0 where
   pub few : AreFewer (IsImage s) 1024
   pub left : s.desk.next_number ≤ 9223372036854775807
 
-pub record MayCopy (s : State) (image : List ℕ) (from to : ℕ) (m : Fields) : Type 0 where
+pub record MayCopy (s : State) (image : List ℕ) (from to : ℕ) (m : ManifestFields) : Type 0 where
   pub home : IsHome s.known.view image from
   pub kept : Lacks s.known.view (Withdrawn image)
   pub listed : map.get s.known.view (Manifest from image) ≡ Some (manifest m)
@@ -100,18 +100,18 @@ pub record MayCopy (s : State) (image : List ℕ) (from to : ℕ) (m : Fields) :
   pub retired : from < to
 
 -- after each call
-abbrev pub opened : State → List ℕ → Fields → State
+abbrev pub opened : State → List ℕ → ManifestFields → State
 opened s image m = record { known = s.known; desk = record s.desk { leases = map.insert s.desk.leases s.desk.next_lease (image, m); next_lease = s.desk.next_lease + 1 } }
 
 abbrev pub began : State → ℕ → Job → ℕ → State
 began s c j next = record { known = s.known; desk = record s.desk { sessions = map.insert s.desk.sessions s.desk.next_session (record { caller = c; job = j }); next_session = s.desk.next_session + 1; next_number = next } }
 
 -- a session's manifest is acknowledged, and the session ends
-abbrev pub made : State → ℕ → List ℕ → ℕ → Fields → State
+abbrev pub made : State → ℕ → List ℕ → ℕ → ManifestFields → State
 made s n image r m = record { known = accepted s.known (Manifest r image) (manifest m); desk = record s.desk { sessions = map.remove s.desk.sessions n } }
 
 -- its put failed
-abbrev pub making : State → ℕ → List ℕ → ℕ → Fields → State
+abbrev pub making : State → ℕ → List ℕ → ℕ → ManifestFields → State
 making s n image r m = record { known = doubting s.known (Manifest r image) (manifest m); desk = record s.desk { makers = map.insert s.desk.makers (Manifest r image) n } }
 
 -- without the session of this number
@@ -120,6 +120,6 @@ ended sessions None = sessions
 ended sessions (Some n) = map.remove sessions n
 
 -- A settled doubt was there. Of a manifest, the session that made the put ends.
-abbrev pub found : State → KeyKind → Held → State
-found s (Manifest r image) (manifest m) = record { known = accepted s.known (Manifest r image) (manifest m); desk = record s.desk { sessions = ended s.desk.sessions (map.get s.desk.makers (Manifest r image)) } }
-found s k x = knows s (accepted s.known k x)
+abbrev pub settled_there : State → KeyKind → Held → State
+settled_there s (Manifest r image) (manifest m) = record { known = accepted s.known (Manifest r image) (manifest m); desk = record s.desk { sessions = ended s.desk.sessions (map.get s.desk.makers (Manifest r image)) } }
+settled_there s k x = knows s (accepted s.known k x)

@@ -1,7 +1,7 @@
 -- What holds of the depot's state after each call, in every way in which its doubts can come out.
 use Rattle.std.specs.Prelude.{◌≡◌, ◌≤◌, ◌<◌, ℕ, List, Some, IsSome, IsTrue}
 use Rattle.std.specs.FinMap as map
-use Rattle.lr_manifest.specs.Manifest.{Fields}
+use Rattle.lr_manifest.specs.Manifest.{ManifestFields}
 use Rattle.lr_text.specs.Name.{is_name}
 use Rattle.lr_origin.specs.declared.key.KeyKind.TheVariants.{Manifest, Withdrawn}
 use Rattle.lr_roots.specs.View.{View, Held, manifest, Has, Lacks}
@@ -17,22 +17,22 @@ Works v (Creates image r d) = Serves v r × ((q : ℕ) → Has v (Manifest q ima
 Works v (Moves image from to m) = Serves v from × Serves v to × (map.get v (Manifest from image) ≡ Some (manifest m)) × (from < to)
 
 -- the image of a lease has a home, and each manifest of it is the lease's
-abbrev pub IsLeased : View → List ℕ → Fields → Type 0
+abbrev pub IsLeased : View → List ℕ → ManifestFields → Type 0
 IsLeased v image m = IsHomed v image × ((q : ℕ) (y : Held) → map.get v (Manifest q image) ≡ Some y → y ≡ manifest m)
 
 -- One way out of the doubts is good: the view is sound, leases and sessions have what they rest on, and every
 -- creation number is below the next.
 pub record IsGood (d : Desk) (v : View) : Type 0 where
   pub sound : IsSound v
-  pub leased : (n : ℕ) (image : List ℕ) (m : Fields) → map.get d.leases n ≡ Some (image, m) → IsLeased v image m
+  pub leased : (n : ℕ) (image : List ℕ) (m : ManifestFields) → map.get d.leases n ≡ Some (image, m) → IsLeased v image m
   pub works : (n : ℕ) (j : Session) → map.get d.sessions n ≡ Some j → Works v j.job
-  pub numbered : (r : ℕ) (image : List ℕ) (m : Fields) → map.get v (Manifest r image) ≡ Some (manifest m) → number_of m < d.next_number
+  pub numbered : (r : ℕ) (image : List ℕ) (m : ManifestFields) → map.get v (Manifest r image) ≡ Some (manifest m) → number_of m < d.next_number
 
 pub record IsSafe (s : State) : Type 0 where
   pub good : Always s.known (IsGood s.desk)
   pub agrees : Agrees s.known
   -- a manifest in doubt is in a root that serves, and its chunks are known to be there
-  pub doubted : (r : ℕ) (image : List ℕ) (m : Fields) → map.get s.known.doubts (Manifest r image) ≡ Some (manifest m) → Lacks s.known.view (Manifest r image) → Always s.known (λ v. Serves v r) × IsComplete s.known.view r m
+  pub doubted : (r : ℕ) (image : List ℕ) (m : ManifestFields) → map.get s.known.doubts (Manifest r image) ≡ Some (manifest m) → Lacks s.known.view (Manifest r image) → Always s.known (λ v. Serves v r) × IsComplete s.known.view r m
   -- an image whose withdrawal is in doubt has a manifest that is known to be there
   pub withdrawing : (image : List ℕ) → IsSome (map.get s.known.doubts (Withdrawn image)) → (q : ℕ) × Has s.known.view (Manifest q image)
   -- the image of a creation is well named
@@ -53,5 +53,5 @@ pub record IsSafe (s : State) : Type 0 where
   pub made : (n c : ℕ) (image : List ℕ) (r d : ℕ) → Holds s n c (Creates image r d) → IsSome (map.get s.known.doubts (Manifest r image)) → map.get s.desk.makers (Manifest r image) ≡ Some n
 
 -- An image that is known by this manifest: where it isn't withdrawn, the view has the manifest in some root.
-abbrev pub Keeps : State → List ℕ → Fields → Type 0
+abbrev pub Keeps : State → List ℕ → ManifestFields → Type 0
 Keeps s image m = Lacks s.known.view (Withdrawn image) → (q : ℕ) × (map.get s.known.view (Manifest q image) ≡ Some (manifest m))

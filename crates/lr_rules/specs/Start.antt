@@ -1,7 +1,7 @@
 -- A depot as it starts.
 use Rattle.std.specs.Prelude.{◌≡◌, ◌≤◌, ◌<◌, ℕ, List, Some}
 use Rattle.std.specs.FinMap as map
-use Rattle.lr_manifest.specs.Manifest.{Fields}
+use Rattle.lr_manifest.specs.Manifest.{ManifestFields}
 use Rattle.lr_origin.specs.declared.key.KeyKind.TheVariants.{Manifest}
 use Rattle.lr_roots.specs.View.{View, manifest}
 use Rattle.lr_roots.specs.Names.{number_of}
@@ -18,6 +18,6 @@ started v next = record {
 -- the view of a sound store, and the next creation number after those found
 pub record MayStart (v : View) (next : ℕ) : Type 0 where
   pub sound : IsSound v
-  pub numbered : (r : ℕ) (image : List ℕ) (m : Fields) → map.get v (Manifest r image) ≡ Some (manifest m) → number_of m < next
+  pub numbered : (r : ℕ) (image : List ℕ) (m : ManifestFields) → map.get v (Manifest r image) ≡ Some (manifest m) → number_of m < next
   pub first : 1 ≤ next
   pub most : next ≤ 9223372036854775808

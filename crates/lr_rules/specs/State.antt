@@ -3,7 +3,7 @@ use Rattle.std.specs.Prelude.{◌≡◌, ◌⊎◌, ℕ, List, Some}
 use Rattle.std.specs.Ordering.{nat_cmp}
 use Rattle.std.specs.FinMap as map
 use Rattle.std.specs.FinMap.{FinMap}
-use Rattle.lr_manifest.specs.Manifest.{Fields}
+use Rattle.lr_manifest.specs.Manifest.{ManifestFields}
 use Rattle.lr_origin.specs.Kind.{kind_cmp}
 use Rattle.lr_rules.specs.Known.{Known}
 
@@ -12,7 +12,7 @@ pub data Job : Type 0 where
   -- the image, the root, the creation number
   Creates : List ℕ → ℕ → ℕ → Job
   -- the image, the root that it moves from, the root that it moves to, its manifest
-  Moves : List ℕ → ℕ → ℕ → Fields → Job
+  Moves : List ℕ → ℕ → ℕ → ManifestFields → Job
 
 pub record Session : Type 0 where
   pub caller : ℕ
@@ -21,7 +21,7 @@ pub record Session : Type 0 where
 -- the leases and sessions that are out, and the numbers that come next
 pub record Desk : Type 0 where
   -- the image and the manifest of each lease
-  pub leases : FinMap nat_cmp (List ℕ × Fields)
+  pub leases : FinMap nat_cmp (List ℕ × ManifestFields)
   pub sessions : FinMap nat_cmp Session
   -- for a manifest in doubt, the session that made the put
   pub makers : FinMap kind_cmp ℕ
@@ -49,7 +49,7 @@ IsRootOf (Moves image from to m) r = (from ≡ r) ⊎ (to ≡ r)
 
 -- Sessions and leases may have ended; everything else is as it was.
 pub record Less (d e : Desk) : Type 0 where
-  pub leases : (n : ℕ) (l : List ℕ × Fields) → map.get e.leases n ≡ Some l → map.get d.leases n ≡ Some l
+  pub leases : (n : ℕ) (l : List ℕ × ManifestFields) → map.get e.leases n ≡ Some l → map.get d.leases n ≡ Some l
   pub sessions : (n : ℕ) (j : Session) → map.get e.sessions n ≡ Some j → map.get d.sessions n ≡ Some j
   pub makers : e.makers ≡ d.makers
   pub next_lease : e.next_lease ≡ d.next_lease

@@ -4,11 +4,5 @@
 //! and deletions come out. The code has the limits.
 #![tactic(auto)]
 
-/// The most roots of a store.
-pub const ROOTS_MAX: u32 = 1000;
-
 /// The most image names of a depot.
 pub const IMAGES_MAX: u32 = 1024;
-
-/// The greatest creation number.
-pub const NUMBER_MAX: u64 = 9_223_372_036_854_775_807;

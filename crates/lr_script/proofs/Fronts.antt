@@ -1,19 +1,19 @@
 -- Fronts of a script.
-use Rattle.std.proofs.Common.{◌≡◌, ℕ, ◌+◌, List, [], ◌∷◌, ◌++◌, length, true, false, sym, ap, subst, ◌∙◌, refl, arith, append_assoc, length-append}
+use Rattle.std.proofs.Common.{◌≡◌, ℕ, ◌+◌, List, [], ◌∷◌, ◌++◌, length, Bool, true, false, sym, ap, subst, ◌∙◌, refl, arith, append_assoc, length-append}
 use Rattle.std.specs.List.{AllPass}
 use Rattle.std.proofs.lemmas.List.{append-nil}
 use Rattle.std.proofs.lemmas.List.Elements.{All-head, All-tail}
 use Rattle.std.proofs.lemmas.Bool.Decides.{nat_tests}
 use Rattle.std.specs.Prelude.{◌==◌}
 use Rattle.lr_text.specs.Words.{Lacks, split_at_byte}
-use Rattle.lr_text.proofs.Cuts.{cut_one, not_lacks}
+use Rattle.lr_text.proofs.Public.{cut_one, not_lacks}
 use Rattle.lr_script.specs.declared.kind.Kind.{Kind}
 use Rattle.lr_script.specs.declared.kind.Kind.TheVariants as kind
 use Rattle.lr_script.specs.Seen.{ScriptSeen}
-use Rattle.lr_script.specs.State.{State, start, counted, IsWhole}
-use Rattle.lr_script.specs.Kinds.{kind_of}
+use Rattle.lr_script.specs.State.{State, start, counted}
+use Rattle.lr_script.specs.Kinds.{kind_of, has_begun}
 use Rattle.lr_script.specs.Lines.{KindLine}
-use Rattle.lr_script.specs.Grammar.{is_text_byte, WordsLine, Reads, Run, text_of, Front, Spells, FirstOutside}
+use Rattle.lr_script.specs.Grammar.{is_text_byte, is_passed, WordsLine, CountedLine, Reads, Run, text_of, Front, Spells, FirstOutside}
 
 -- the lines and the bytes of a state
 abbrev pub counts : State → ℕ × ℕ
@@ -22,23 +22,47 @@ counts s = (s.lines, s.bytes)
 -- A line's words leave them.
 kind_counts : (k : Kind) (s : State) (words : List (List ℕ)) (after : State) → KindLine k s words after → counts after ≡ counts s
 kind_counts kind.Script s words after h = ap counts h.result
+kind_counts kind.Nodes s words after h = ap counts h.result
 kind_counts kind.Host s words after h = ap counts h.result
 kind_counts kind.Root s words after h = ap counts h.result
 kind_counts kind.Image s words after h = ap counts h.result
 kind_counts kind.Device s words after h = ap counts h.result
 kind_counts kind.Actor s words after h = ap counts h.result
 kind_counts kind.Read s words after h = ap counts h.result
+kind_counts kind.Zero s words after h = ap counts h.result
+kind_counts kind.Write s words after h = ap counts h.result
+kind_counts kind.Create s words after h = ap counts h.result
+kind_counts kind.Migrate s words after h = ap counts h.result
+kind_counts kind.Withdraw s words after h = ap counts h.result
+kind_counts kind.Rotate s words after h = ap counts h.result
+kind_counts kind.Expire s words after h = ap counts h.result
+kind_counts kind.Delete s words after h = ap counts h.result
+kind_counts kind.Sweep s words after h = ap counts h.result
+kind_counts kind.Settle s words after h = ap counts h.result
+kind_counts kind.Evict s words after h = ap counts h.result
+kind_counts kind.Drop s words after h = ap counts h.result
+kind_counts kind.Flip s words after h = ap counts h.result
+kind_counts kind.Forge s words after h = ap counts h.result
+kind_counts kind.Lose s words after h = ap counts h.result
+kind_counts kind.After s words after h = ap counts h.result
+kind_counts kind.Close s words after h = ap counts h.result
+kind_counts kind.Crash s words after h = ap counts h.result
+kind_counts kind.Schedule s words after h = ap counts h.result
 kind_counts kind.Other s words after h = absurd h
 
 words_counts : (s : State) (words : List (List ℕ)) (after : State) → WordsLine s words after → counts after ≡ counts s
 words_counts s [] after h = absurd h
 words_counts s (word ∷ words) after h = kind_counts (kind_of word) s words after h.1
 
+counted_counts : (b : Bool) (s : State) (line : List ℕ) (after : State) → CountedLine b s line after → counts after ≡ counts s
+counted_counts true s line after h = ap counts h
+counted_counts false s line after h = words_counts s (split_at_byte 32 line) after h
+
 pub reads_lines : (s : State) (line : List ℕ) (after : State) → Reads s line after → after.lines ≡ s.lines + 1
-reads_lines s line after h = ap (λ (c : ℕ × ℕ). c.0) (words_counts (counted s line) (split_at_byte 32 line) after h.words)
+reads_lines s line after h = ap (λ (c : ℕ × ℕ). c.0) (counted_counts (is_passed line) (counted s line) line after h.item)
 
 pub reads_bytes : (s : State) (line : List ℕ) (after : State) → Reads s line after → after.bytes ≡ s.bytes + length line + 1
-reads_bytes s line after h = ap (λ (c : ℕ × ℕ). c.1) (words_counts (counted s line) (split_at_byte 32 line) after h.words)
+reads_bytes s line after h = ap (λ (c : ℕ × ℕ). c.1) (counted_counts (is_passed line) (counted s line) line after h.item)
 
 -- how far the parser is
 pub record Reached (bytes rest : List ℕ) (now : State) : Type 0 where
@@ -86,7 +110,7 @@ next_outside bytes rest now n line behind reached number e lacks none = record {
   front = reached.front;
   number = let c = reached.count in omega arith;
   outside = record {
-    more = λ script empty whole. let a : length rest ≡ 0 = ap length empty in let b : length rest ≡ length (line ++ 10 ∷ behind) = ap length e in let c = length-append line (10 ∷ behind) in absurd (omega arith);
+    more = λ empty. let a : length rest ≡ 0 = ap length empty in let b : length rest ≡ length (line ++ 10 ∷ behind) = ap length e in let c = length-append line (10 ∷ behind) in absurd (omega arith);
     outside = λ other rear after f h.
         let one = cut_one 10 line other behind rear lacks (text_lacks other h.text) (sym e ∙ f) in
         none after (subst (λ (l : List ℕ). Reads now l after) (sym one.0) h);
@@ -94,7 +118,7 @@ next_outside bytes rest now n line behind reached number e lacks none = record {
 }
 
 -- no line is next
-pub end_outside : (bytes rest : List ℕ) (now : State) (n : ℕ) → Reached bytes rest now → n ≡ now.lines + 1 → Lacks 10 rest → ((script : ScriptSeen) → rest ≡ [] → IsWhole now.draft script → ⊥) → FirstOutside bytes n
+pub end_outside : (bytes rest : List ℕ) (now : State) (n : ℕ) → Reached bytes rest now → n ≡ now.lines + 1 → Lacks 10 rest → (rest ≡ [] → has_begun now.part ≡ false) → FirstOutside bytes n
 end_outside bytes rest now n reached number lacks more = record {
   before = now;
   rest = rest;
@@ -106,11 +130,12 @@ end_outside bytes rest now n reached number lacks more = record {
   };
 }
 
-pub spells : (bytes rest : List ℕ) (now : State) (script : ScriptSeen) → Reached bytes rest now → length rest ≡ 0 → IsWhole now.draft script → Spells bytes script
-spells bytes rest now script reached empty whole = record {
+pub spells : (bytes rest : List ℕ) (now : State) (script : ScriptSeen) → Reached bytes rest now → length rest ≡ 0 → has_begun now.part ≡ true → script ≡ now.script → Spells bytes script
+spells bytes rest now script reached empty begun e = record {
   last = now;
-  lines = subst (λ (r : List ℕ). Front bytes r now) (none rest empty) reached.front;
-  whole = whole;
+  whole = subst (λ (r : List ℕ). Front bytes r now) (none rest empty) reached.front;
+  begun = begun;
+  result = e;
 } where
   none : (xs : List ℕ) → length xs ≡ 0 → xs ≡ []
   none [] e = refl

@@ -1,3 +1,12 @@
+pub mod Lists
+pub mod Actors
 pub mod Fronts
+pub mod OneKey
+pub mod OneLine
+pub mod PairsFacts
 pub mod Unique
+pub mod Sure
+pub mod SureFields
+pub mod SureLines
+pub mod Either
 pub mod Longer

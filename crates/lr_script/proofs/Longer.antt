@@ -2,6 +2,7 @@
 use Rattle.std.proofs.Common.{◌≡◌, ℕ, ◌+◌, ◌<◌, ◌≤◌, List, [], ◌∷◌, ◌++◌, length, take, drop, sym, ap, ◌∙◌, subst, refl, arith, append_assoc, length-append}
 use Rattle.std.proofs.lemmas.List.{take-append-le, take-append-drop, append-nil}
 use Rattle.std.proofs.Math.Seq.{take-append_seam}
+use Rattle.lr_script.specs.Limits.{bytes_most}
 use Rattle.lr_script.specs.Seen.{ScriptSeen}
 use Rattle.lr_script.specs.State.{State, start}
 use Rattle.lr_script.specs.Grammar.{Run, text_of, Spells, FirstOutside}
@@ -16,14 +17,14 @@ run_bytes s (line ∷ lines) last run =
     let d = length-append line (10 ∷ []) in
     omega arith
 
-run_within : (s : State) (lines : List (List ℕ)) (last : State) → s.bytes ≤ 4194304 → Run s lines last → last.bytes ≤ 4194304
+run_within : (s : State) (lines : List (List ℕ)) (last : State) → s.bytes ≤ bytes_most → Run s lines last → last.bytes ≤ bytes_most
 run_within s [] last le run = let e : s.bytes ≡ last.bytes = ap (λ (t : State). t.bytes) run in omega arith
 run_within s (line ∷ lines) last le run = run_within run.0 lines last (let a = reads_bytes s line run.0 run.1 in let w = run.1.within in omega arith) run.2
 
 -- A script is within its limit.
-pub spells_within : (bytes : List ℕ) (script : ScriptSeen) → Spells bytes script → length bytes ≤ 4194304
+pub spells_within : (bytes : List ℕ) (script : ScriptSeen) → Spells bytes script → length bytes ≤ bytes_most
 spells_within bytes script h =
-    let f = h.lines in
+    let f = h.whole in
     let a = run_bytes start f.lines h.last f.run in
     let b = run_within start f.lines h.last (omega arith) f.run in
     let c : length bytes ≡ length (text_of f.lines) = ap length (f.front ∙ append-nil (text_of f.lines)) in
@@ -38,7 +39,7 @@ front_of rest behind line rear e le =
     sym (take-append-drop (length line + 1) rest) ∙ ap (λ (t : List ℕ). t ++ drop (length line + 1) rest) c ∙ append_assoc line (10 ∷ []) (drop (length line + 1) rest)
 
 -- So a reader may stop at one byte past the limit.
-pub outside_longer : (front behind : List ℕ) (n : ℕ) → 4194304 < length front → FirstOutside front n → FirstOutside (front ++ behind) n
+pub outside_longer : (front behind : List ℕ) (n : ℕ) → bytes_most < length front → FirstOutside front n → FirstOutside (front ++ behind) n
 outside_longer front behind n long h =
     let f = h.front in
     let bytes = run_bytes start f.lines h.before f.run in
@@ -49,7 +50,7 @@ outside_longer front behind n long h =
       front = record { lines = f.lines; front = ap (λ (t : List ℕ). t ++ behind) f.front ∙ append_assoc (text_of f.lines) h.rest behind; run = f.run };
       number = h.number;
       outside = record {
-        more = λ script e whole. h.outside.more script (none h.rest behind e) whole;
+        more = λ e. h.outside.more (none h.rest behind e);
         outside = λ line rear after e r.
             let w = r.within in
             h.outside.outside line (drop (length line + 1) h.rest) after (front_of h.rest behind line rear e (omega arith)) r;

@@ -1,21 +1,23 @@
 ghost use Rattle.std.specs.Prelude.{◌≡◌};
+ghost use Rattle.lr_script.specs.declared.error.ScriptError.TheVariants.{OutOfMemory as NoMemory};
 
-use lr_spec::OutOfMemory as NoMemory;
+use lr_spec::OutOfMemory;
+use thiserror::Error;
 
-/// Why a text is no script.
-#[derive(Clone, Copy, Debug, PartialEq, Eq)]
+/// Why bytes are no script, or want of memory.
+#[derive(Clone, Copy, Debug, PartialEq, Eq, Error)]
 pub enum ScriptError {
     /// The number, from 1, of the first line outside the grammar or over a limit.
+    #[error("line {0} is outside the grammar")]
     Line(u32),
+    #[error("out of memory")]
     OutOfMemory,
 }
 
-impl From<NoMemory> for ScriptError {
-    ghost use Rattle.lr_script.specs.declared.error.ScriptError.TheVariants.{OutOfMemory};
+impl From<OutOfMemory> for ScriptError {
+    ghost from_gives = { λ _ e. e ≡ NoMemory };
 
-    ghost from_gives = { λ _ e. e ≡ OutOfMemory };
-
-    fn from(_: NoMemory) -> Self {
+    fn from(_: OutOfMemory) -> ScriptError {
         ScriptError::OutOfMemory
     }
 }

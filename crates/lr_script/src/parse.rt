@@ -1,5 +1,6 @@
-ghost use Rattle.std.specs.Prelude.{◌≡◌, ◌<◌, ◌≤◌, ◌++◌, ℕ, List, length, IfOk, IfErr};
+ghost use Rattle.std.specs.Prelude.{◌⊎◌, ◌≡◌, ◌<◌, ◌≤◌, ◌++◌, ℕ, List, length, IfOk, IfErr};
 ghost use Rattle.lr_script.specs.Seen.{ScriptSeen};
+ghost use Rattle.lr_script.specs.Limits.{bytes_most};
 ghost use Rattle.lr_script.specs.Grammar.{Spells, FirstOutside, IfLine};
 
 use crate::error::ScriptError;
@@ -10,7 +11,8 @@ use lr_text::cut_at;
 use std::alloc::Global;
 
 impl Script {
-    /// Reads a script. The error names the first line outside the grammar.
+    /// Reads a script. `Line` names the first line, from 1, that is outside the grammar or passes a limit; where no
+    /// line but comments and empty ones comes, it is the line after the last.
     pub fn parse(alloc: Global, bytes: &[u8]) -> Result<Script, ScriptError>
         ensures spelled { IfOk result (λ script. Spells bytes.now script) }
         ensures outside { IfErr result (λ e. IfLine e (FirstOutside bytes.now)) }
@@ -28,18 +30,20 @@ impl Script {
         if !rest.is_empty() {
             return Err(ScriptError::Line(number));
         }
-        let Some(script) = reading.into_script() else {
+        if !reading.has_begun() {
             return Err(ScriptError::Line(number));
-        };
-        Ok(script)
+        }
+        Ok(reading.into_script())
     }
 }
 
-/// Bytes spell one script, or one line is the first outside. A front past the limit tells it.
+/// Bytes spell one script, or one line is the first outside: never both and never neither. A front past the limit
+/// in bytes tells it.
 pub fn one_reading()
     ensures script { (bytes : List ℕ) (a b : ScriptSeen) → Spells bytes a → Spells bytes b → a ≡ b }
     ensures line { (bytes : List ℕ) (m n : ℕ) → FirstOutside bytes m → FirstOutside bytes n → m ≡ n }
     ensures apart { (bytes : List ℕ) (a : ScriptSeen) (n : ℕ) → Spells bytes a → FirstOutside bytes n → ⊥ }
-    ensures limit { (bytes : List ℕ) (a : ScriptSeen) → Spells bytes a → length bytes ≤ 4194304 }
-    ensures longer { (front behind : List ℕ) (n : ℕ) → 4194304 < length front → FirstOutside front n → FirstOutside (front ++ behind) n }
+    ensures either { (bytes : List ℕ) → ((a : ScriptSeen) × Spells bytes a) ⊎ ((n : ℕ) × FirstOutside bytes n) }
+    ensures limit { (bytes : List ℕ) (a : ScriptSeen) → Spells bytes a → length bytes ≤ bytes_most }
+    ensures longer { (front behind : List ℕ) (n : ℕ) → bytes_most < length front → FirstOutside front n → FirstOutside (front ++ behind) n }
 {}

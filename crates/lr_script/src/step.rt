@@ -1,25 +1,26 @@
-ghost use Rattle.std.specs.Prelude.{◌≡◌, ◌<◌, ◌≤◌, ◌+◌, ◌∷◌, [], map, length, false, IfOk, IsTrue, ◌↔◌};
+//! A line: its kind by its first word, and the words behind it.
+ghost use Rattle.std.specs.Prelude.{◌≡◌, [], map, true, false, IfOk, IsTrue, ◌↔◌};
 ghost use Rattle.std.specs.List.{AllPass};
 ghost use Rattle.lr_text.specs.Words.{split_at_byte};
 ghost use Rattle.lr_script.specs.State.{State};
 ghost use Rattle.lr_script.specs.Lines.{KindLine};
-ghost use Rattle.lr_script.specs.Grammar.{is_text_byte, WordsLine, Reads};
+ghost use Rattle.lr_script.specs.Grammar.{is_text_byte, is_passed, WordsLine, CountedLine, Reads};
 
-use crate::kind::{Kind, kind_of, may_come};
-use crate::lines::{
-    actor_line, device_line, host_line, image_line, read_line, root_line, script_line,
+use crate::damage_jobs::{drop_line, evict_line, flip_line, forge_line, lose_line};
+use crate::depot_jobs::{
+    create_line, delete_line, expire_line, migrate_line, rotate_line, settle_line, sweep_line,
+    withdraw_line,
 };
+use crate::device_jobs::{read_line, write_line, zero_line};
+use crate::kind::{Kind, kind_of, may_come};
+use crate::limits::{BYTES_MOST, LINE_MOST, LINES_MOST};
+use crate::parts::{actor_line, after_line, close_line, crash_line};
 use crate::reading::Reading;
+use crate::schedule::schedule_line;
+use crate::setup::{device_line, host_line, image_line, nodes_line, root_line, script_line};
 use lr_spec::OutOfMemory;
 use lr_text::{first, parts};
 use std::alloc::Global;
-
-// Bytes of a line without its LF, lines of a script, bytes of a script.
-const LINE_MAX: usize = 4096;
-
-const LINES_MAX: u32 = 100_000;
-
-const BYTES_MAX: usize = 4_194_304;
 
 fn kind_line(
     alloc: Global,
@@ -32,12 +33,32 @@ fn kind_line(
 {
     match kind {
         Kind::Script => Ok(script_line(reading, words)),
-        Kind::Root => Ok(root_line(reading, words)),
-        Kind::Host => Ok(host_line(reading, words)),
+        Kind::Nodes => Ok(nodes_line(reading, words)),
+        Kind::Host => host_line(reading, words),
+        Kind::Root => root_line(reading, words),
         Kind::Image => image_line(alloc, reading, words),
-        Kind::Device => Ok(device_line(reading, words)),
-        Kind::Actor => Ok(actor_line(reading, words)),
+        Kind::Device => device_line(reading, words),
+        Kind::Actor => actor_line(alloc, reading, words),
         Kind::Read => read_line(reading, words),
+        Kind::Zero => zero_line(reading, words),
+        Kind::Write => write_line(alloc, reading, words),
+        Kind::Create => create_line(alloc, reading, words),
+        Kind::Migrate => migrate_line(reading, words),
+        Kind::Withdraw => withdraw_line(reading, words),
+        Kind::Rotate => rotate_line(reading, words),
+        Kind::Expire => expire_line(reading, words),
+        Kind::Delete => delete_line(reading, words),
+        Kind::Sweep => sweep_line(reading, words),
+        Kind::Settle => settle_line(reading, words),
+        Kind::Evict => evict_line(reading, words),
+        Kind::Drop => drop_line(reading, words),
+        Kind::Flip => flip_line(reading, words),
+        Kind::Forge => forge_line(reading, words),
+        Kind::Lose => lose_line(reading, words),
+        Kind::After => Ok(after_line(alloc, reading, words)),
+        Kind::Close => close_line(reading, words),
+        Kind::Crash => crash_line(reading, words),
+        Kind::Schedule => schedule_line(alloc, reading, words),
         Kind::Other => Ok(false),
     }
 }
@@ -63,23 +84,42 @@ fn is_text(line: &[u8]) -> bool
     line.iter().all(|b| *b >= 32 && *b <= 126)
 }
 
+fn is_passed(line: &[u8]) -> bool
+    ensures { result ≡ is_passed line.now }
+{
+    match line {
+        [] => true,
+        [first, ..] => *first == b'#',
+    }
+}
+
+fn counted_line(alloc: Global, reading: &mut Reading, line: &[u8]) -> Result<bool, OutOfMemory>
+    ensures read { IfOk result (λ b. IsTrue b → CountedLine (is_passed line.now) reading.old line.now reading.new) }
+    ensures only { IfOk result (λ b. b ≡ false → (after : State) → CountedLine (is_passed line.now) reading.old line.now after → ⊥) }
+{
+    if is_passed(line) {
+        return Ok(true);
+    }
+    words_line(alloc, reading, line)
+}
+
 /// Reads a line, without its LF. It is false where the line may not come.
 pub fn step(alloc: Global, reading: &mut Reading, line: &[u8]) -> Result<bool, OutOfMemory>
     ensures read { IfOk result (λ b. IsTrue b → Reads reading.old line.now reading.new) }
     ensures only { IfOk result (λ b. b ≡ false → (after : State) → Reads reading.old line.now after → ⊥) }
 {
-    if line.len() > LINE_MAX {
+    if line.len() > LINE_MOST {
         return Ok(false);
     }
-    if reading.lines() >= LINES_MAX {
+    if reading.lines() >= LINES_MOST {
         return Ok(false);
     }
-    if reading.bytes() as usize + line.len() + 1 > BYTES_MAX {
+    if reading.bytes() as usize + line.len() + 1 > BYTES_MOST {
         return Ok(false);
     }
     if !is_text(line) {
         return Ok(false);
     }
     reading.count_line(line);
-    words_line(alloc, reading, line)
+    counted_line(alloc, reading, line)
 }

@@ -9,10 +9,10 @@ use Rattle.lr_layout.specs.Padded.{padded_length}
 use Rattle.lr_aes.specs.Key.{encrypted}
 use Rattle.lr_aes.specs.Gcm.{gcm_tag}
 use Rattle.lr_manifest.specs.declared.name.Name.{Name}
-use Rattle.lr_manifest.specs.Manifest.{Fields, clear_text}
+use Rattle.lr_manifest.specs.Manifest.{ManifestFields, AreKeys, clear_text}
 use Rattle.lr_convergent.specs.Sealed.{filled, sealed_key}
-use Rattle.lr_convergent.proofs.Twice.{chunk_twice}
-use Rattle.lr_seal.specs.Table.{AreRows, joined_keys, key_list, HasTag, made}
+use Rattle.lr_convergent.proofs.Public.{chunk_twice}
+use Rattle.lr_seal.specs.Table.{joined_keys, key_list, HasTag, made}
 use Rattle.lr_seal.specs.Denotation.{both, opened, cut, plain_of, denotation, IsDenotedByTag, AreKept, DenotesItsParts}
 use Rattle.lr_seal.proofs.Pieces.{made_tag, made_keys}
 
@@ -20,7 +20,7 @@ by_lack : (b : Bool) (P : Type 0) → Decides b P → (P → ⊥) → b ≡ fals
 by_lack true P d never = absurd (never (d.0 refl))
 by_lack false P d never = refl
 
-pub denotation-right : (m : Fields) (tenant : List ℕ) (body : List ℕ → Option (List ℕ)) → HasTag m tenant
+pub denotation-right : (m : ManifestFields) (tenant : List ℕ) (body : List ℕ → Option (List ℕ)) → HasTag m tenant
     → denotation m tenant body ≡ cut (padded_length m.raw_len) (plain_of body m.names (key_list m tenant))
 unfolding HasTag denotation
 denotation-right m tenant body h =
@@ -28,7 +28,7 @@ denotation-right m tenant body h =
     let is : bytes_eq m.tag tag ≡ true = (bytes_eq-Decides m.tag tag).1 h in
     ap (λ (b : Bool). if b then cut (padded_length m.raw_len) (plain_of body m.names (key_list m tenant)) else None) is
 
-pub denotation-wrong : (m : Fields) (tenant : List ℕ) (body : List ℕ → Option (List ℕ)) → (HasTag m tenant → ⊥) → denotation m tenant body ≡ None
+pub denotation-wrong : (m : ManifestFields) (tenant : List ℕ) (body : List ℕ → Option (List ℕ)) → (HasTag m tenant → ⊥) → denotation m tenant body ≡ None
 unfolding HasTag denotation
 denotation-wrong m tenant body h =
     let tag : List ℕ = gcm_tag (encrypted tenant) m.nonce (clear_text m.raw_len m.names) (joined_keys m.sealed) in
@@ -38,9 +38,9 @@ denotation-wrong m tenant body h =
 pub by_tag : IsDenotedByTag
 by_tag = record { right = denotation-right; wrong = denotation-wrong }
 
-AreRows-keys : (salt : List ℕ) (parts : List (List ℕ)) → AreRows (map (sealed_key salt) parts)
-AreRows-keys salt [] = tt
-AreRows-keys salt (part ∷ parts) = (length-sha256 (salt ++ filled 524288 part), AreRows-keys salt parts)
+AreKeys-keys : (salt : List ℕ) (parts : List (List ℕ)) → AreKeys (map (sealed_key salt) parts)
+AreKeys-keys salt [] = tt
+AreKeys-keys salt (part ∷ parts) = (length-sha256 (salt ++ filled 524288 part), AreKeys-keys salt parts)
 
 plain_of-kept : (salt : List ℕ) (body : List ℕ → Option (List ℕ)) (names : List Name) (parts : List (List ℕ)) → AreKept salt body names parts
     → plain_of body names (map (sealed_key salt) parts) ≡ Some (flat_map (filled 524288) parts)
@@ -57,7 +57,7 @@ pub denotes_parts : DenotesItsParts
 unfolding made
 denotes_parts raw names parts salt nonce tenant body h =
     let keys : List (List ℕ) = map (sealed_key salt) parts in
-    let rows : AreRows keys = AreRows-keys salt parts in
+    let rows : AreKeys keys = AreKeys-keys salt parts in
     denotation-right (made raw names keys nonce tenant) tenant body (made_tag raw names keys nonce tenant rows)
     ∙ ap (λ (list : List (List ℕ)). cut (padded_length raw) (plain_of body names list)) (made_keys raw names keys nonce tenant rows)
     ∙ ap (cut (padded_length raw)) (plain_of-kept salt body names parts h)

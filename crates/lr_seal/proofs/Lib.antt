@@ -1,2 +1,3 @@
-pub mod Pieces
-pub mod Denoted
+mod Denoted
+mod Pieces
+mod Remade

@@ -6,7 +6,7 @@ use Rattle.lr_layout.specs.Padded.{padded_length}
 use Rattle.lr_aes.specs.Key.{encrypted}
 use Rattle.lr_aes.specs.Gcm.{gcm_tag}
 use Rattle.lr_manifest.specs.declared.name.Name.{Name}
-use Rattle.lr_manifest.specs.Manifest.{Fields, clear_text}
+use Rattle.lr_manifest.specs.Manifest.{ManifestFields, clear_text}
 use Rattle.lr_convergent.specs.Sealed.{chunk_text, filled, sealed_key, sealed_bytes}
 use Rattle.lr_seal.specs.Table.{joined_keys, key_list, HasTag, made}
 
@@ -35,7 +35,7 @@ plain_of body (n ∷ names) (k ∷ keys) = both (opened k (body n.bytes)) (plain
 
 -- The denotation of a manifest under a tenant's key, over the bodies of a root: where the tag is right and all
 -- chunks are there, their plaintexts, joined and cut to the padded length.
-unfoldable pub denotation : Fields → List ℕ → (List ℕ → Option (List ℕ)) → Option (List ℕ)
+unfoldable pub denotation : ManifestFields → List ℕ → (List ℕ → Option (List ℕ)) → Option (List ℕ)
 denotation m tenant body =
     if bytes_eq m.tag (gcm_tag (encrypted tenant) m.nonce (clear_text m.raw_len m.names) (joined_keys m.sealed))
     then cut (padded_length m.raw_len) (plain_of body m.names (key_list m tenant))
@@ -45,9 +45,9 @@ denotation m tenant body =
 
 -- At a right tag the denotation is that of the keys that unsealing gives, and at a wrong one there is none.
 pub record IsDenotedByTag : Type 0 where
-  pub right : (m : Fields) (tenant : List ℕ) (body : List ℕ → Option (List ℕ)) → HasTag m tenant
+  pub right : (m : ManifestFields) (tenant : List ℕ) (body : List ℕ → Option (List ℕ)) → HasTag m tenant
       → denotation m tenant body ≡ cut (padded_length m.raw_len) (plain_of body m.names (key_list m tenant))
-  pub wrong : (m : Fields) (tenant : List ℕ) (body : List ℕ → Option (List ℕ)) → (HasTag m tenant → ⊥) → denotation m tenant body ≡ None
+  pub wrong : (m : ManifestFields) (tenant : List ℕ) (body : List ℕ → Option (List ℕ)) → (HasTag m tenant → ⊥) → denotation m tenant body ≡ None
 
 -- The body of each name is the sealed chunk of its part, under one salt.
 abbrev pub AreKept : List ℕ → (List ℕ → Option (List ℕ)) → List Name → List (List ℕ) → Type 0

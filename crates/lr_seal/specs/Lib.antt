@@ -1,3 +1,4 @@
 pub mod Table
 pub mod Fault
 pub mod Denotation
+pub mod Made

@@ -12,6 +12,9 @@ mod table;
 mod tests;
 
 pub use error::UnsealError;
-pub use laws::{denotes_its_parts, is_denoted_by_tag};
+pub use laws::{denotes_its_parts, is_denoted_by_tag, made_manifests_denote};
 pub use make::make_manifest;
 pub use table::KeyTable;
+
+// The bytes of a chunk are named in two crates below, and neither stands on the other.
+const _: () = prove!(lr_layout::CHUNK == lr_manifest::CHUNK as u64);

@@ -1,13 +1,13 @@
 //! Making a manifest.
-ghost use Rattle.std.specs.Prelude.{◌≡◌, ◌≤◌, ◌*◌, ◌^◌, length, IfOk};
+ghost use Rattle.std.specs.Prelude.{◌≡◌, ◌≤◌, ◌^◌, length, IfOk};
 ghost use Rattle.lr_aes.specs.Key.{encrypted};
 ghost use Rattle.lr_aes.specs.Gcm.{gcm_text, gcm_tag};
 ghost use Rattle.lr_manifest.specs.Manifest.{chunk_count};
-ghost use Rattle.lr_seal.specs.Table.{rows_of, key_list, HasTag, made};
+ghost use Rattle.lr_seal.specs.Table.{key_list, HasTag, made};
 
 use crate::table::KeyTable;
 use lr_aes::AesKey;
-use lr_manifest::{Manifest, Name, TenantKey, clear_text};
+use lr_manifest::{Manifest, Name, TenantKey, clear_text, cut_rows};
 use lr_spec::OutOfMemory;
 use std::alloc::Global;
 
@@ -19,20 +19,6 @@ fn seal_text(key: &AesKey, nonce: &[u8; 12], clear: &[u8], text: &mut Vec<u8>) -
     ensures tag { result ≡ gcm_tag (encrypted key.now) nonce.now clear.now text.new.items }
 {
     key.gcm_seal(nonce, clear, text)
-}
-
-// The pieces of 32 bytes.
-fn rows(alloc: Global, bytes: &[u8], count: usize) -> Result<Vec<[u8; 32]>, OutOfMemory>
-    requires { length bytes.now ≡ 32 * count }
-    ensures { IfOk result (λ v. v.items ≡ rows_of count bytes.now) }
-{
-    let mut out: Vec<[u8; 32]> = Vec::new(alloc);
-    for i in 0..count {
-        let mut key = [0u8; 32];
-        key.copy_from_slice(&bytes[32 * i..32 * i + 32]);
-        out.push(key)?;
-    }
-    Ok(out)
 }
 
 /// The manifest of an image of so many raw bytes, with the names of its chunks and their keys, which are sealed
@@ -60,6 +46,6 @@ pub fn make_manifest(
     let mut text = keys.joined(alloc)?;
     let key = AesKey::new256(&tenant.bytes);
     let tag = seal_text(&key, &nonce, &clear, &mut text);
-    let sealed = rows(alloc, &text, count)?;
+    let sealed = cut_rows(alloc, &text, count)?;
     Ok(Manifest::of(raw_len, names, nonce, sealed, tag))
 }

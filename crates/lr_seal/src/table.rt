@@ -1,14 +1,14 @@
 //! The table, and opening it.
-ghost use Rattle.std.specs.Prelude.{◌≡◌, ◌≢◌, ◌≤◌, ◌<◌, ◌++◌, ◌∷◌, ◌*◌, ◌^◌, [], length, IfOk, OnOk, OnErr, MatchResult, MatchOption, slice_get, Some};
-ghost use Rattle.std.specs.List.{flat_map};
+ghost use Rattle.std.specs.Prelude.{◌≡◌, ◌≢◌, ◌≤◌, ◌<◌, ◌++◌, ◌∷◌, ◌^◌, [], length, IfOk, OnOk, OnErr, MatchResult, MatchOption, slice_get, Some};
 ghost use Rattle.lr_aes.specs.Key.{encrypted};
 ghost use Rattle.lr_aes.specs.Gcm.{gcm_text, gcm_tag};
-ghost use Rattle.lr_seal.specs.Table.{key_bytes, AreRows, rows_of, joined_keys, key_list, HasTag};
+ghost use Rattle.lr_manifest.specs.Manifest.{AreKeys};
+ghost use Rattle.lr_seal.specs.Table.{joined_keys, key_list, HasTag};
 ghost use Rattle.lr_seal.specs.Fault.{Fails};
 
 use crate::error::UnsealError;
 use lr_aes::{AesKey, BadTag};
-use lr_manifest::{ChunkKey, Manifest, TenantKey};
+use lr_manifest::{ChunkKey, Manifest, TenantKey, cut_rows, join_rows};
 use lr_spec::OutOfMemory;
 use std::alloc::Global;
 use std::marker::Model;
@@ -23,35 +23,14 @@ pub struct KeyTable {
 
 impl Model for KeyTable {
     ghost use Rattle.std.specs.Prelude.{ℕ, List, map};
-    ghost use Rattle.lr_seal.specs.Table.{key_bytes, AreRows};
+    ghost use Rattle.lr_manifest.specs.Manifest.{AreKeys};
+    ghost use Rattle.lr_seal.specs.Table.{key_bytes};
 
     ghost Value = { List (List ℕ) };
 
     ghost view = { λ t. map key_bytes t.keys.items };
 
-    ghost invariant = { λ t. AreRows (map key_bytes t.keys.items) };
-}
-
-// The sealed keys, joined.
-fn joined(alloc: Global, keys: &[[u8; 32]]) -> Result<Vec<u8>, OutOfMemory>
-    ensures { IfOk result (λ v. v.items ≡ joined_keys keys.now) }
-{
-    let mut out = Vec::new(alloc);
-    for key in keys {
-        out.extend_from_slice(key.as_slice())?;
-    }
-    Ok(out)
-}
-
-// The bytes of the keys, joined.
-fn keys_text(alloc: Global, keys: &[ChunkKey]) -> Result<Vec<u8>, OutOfMemory>
-    ensures { IfOk result (λ v. v.items ≡ flat_map key_bytes keys.now) }
-{
-    let mut out = Vec::new(alloc);
-    for key in keys {
-        out.extend_from_slice(key.bytes.as_slice())?;
-    }
-    Ok(out)
+    ghost invariant = { λ t. AreKeys (map key_bytes t.keys.items) };
 }
 
 // Opens the text in place.
@@ -102,7 +81,7 @@ impl KeyTable {
     /// How many keys there are, each of 32 bytes.
     pub fn count(&self) -> usize
         ensures count { result ≡ length self.now }
-        ensures rows { AreRows self.now }
+        ensures rows { AreKeys self.now }
     {
         self.keys.len()
     }
@@ -111,22 +90,8 @@ impl KeyTable {
     pub fn joined(&self, alloc: Global) -> Result<Vec<u8>, OutOfMemory>
         ensures { IfOk result (λ v. v.items ≡ joined_keys self.now) }
     {
-        let text = keys_text(alloc, &self.keys)?;
+        let text = join_rows(alloc, &self.keys)?;
         Ok(text)
-    }
-
-    // The table of so many keys whose bytes these are.
-    fn of_bytes(alloc: Global, bytes: &[u8], count: usize) -> Result<KeyTable, OutOfMemory>
-        requires { length bytes.now ≡ 32 * count }
-        ensures { IfOk result (λ t. t ≡ rows_of count bytes.now) }
-    {
-        let mut table = KeyTable::new(alloc);
-        for i in 0..count {
-            let mut key = [0u8; 32];
-            key.copy_from_slice(&bytes[32 * i..32 * i + 32]);
-            table.push(ChunkKey { bytes: key })?;
-        }
-        Ok(table)
     }
 
     /// The keys of a manifest, opened under a tenant's key. `Sealed` comes exactly at a wrong tag.
@@ -140,11 +105,13 @@ impl KeyTable {
             (λ e. Fails e manifest.now tenant.now.bytes) }
     {
         let clear = manifest.clear_text(alloc)?;
-        let mut keys = joined(alloc, manifest.sealed())?;
+        let mut keys = join_rows(alloc, manifest.sealed())?;
         let key = AesKey::new256(&tenant.bytes);
         match open_text(&key, manifest.nonce(), &clear, &mut keys, manifest.tag()) {
             Err(_) => Err(UnsealError::Sealed),
-            Ok(()) => Ok(KeyTable::of_bytes(alloc, &keys, manifest.sealed().len())?),
+            Ok(()) => Ok(KeyTable {
+                keys: cut_rows(alloc, &keys, manifest.sealed().len())?,
+            }),
         }
     }
 }

@@ -1,7 +1,9 @@
 //! A table sealed and opened again.
 use crate::{KeyTable, UnsealError, make_manifest};
 use lr_manifest::{ChunkKey, Manifest, ManifestError, Name, TenantKey};
+use sha2::{Digest, Sha256};
 use std::alloc::Global;
+use std::test::Fail;
 
 // The manifest of 5,000 bytes, of root 1 and creation number 1.
 fn one_chunk(alloc: Global) -> Option<Manifest> {
@@ -141,4 +143,50 @@ fn a_manifest_of_the_limit_is_printed_and_read(rt: HostRuntime) {
     };
     assert_eq!(rt; bytes.len(), 1_310_772);
     assert_eq!(rt; outcome_of(alloc, &bytes), "opened");
+}
+
+// 32 bytes, each one more than the one before.
+fn ramp(first: u8) -> [u8; 32] {
+    let mut bytes = [0u8; 32];
+    for i in 0..32usize {
+        bytes[i] = first.wrapping_add(i as u8);
+    }
+    bytes
+}
+
+// Whether the 32 bytes are these two numbers, big-endian.
+fn are(bytes: &[u8; 32], high: u128, low: u128) -> bool {
+    bytes[..16] == high.to_be_bytes()[..] && bytes[16..] == low.to_be_bytes()[..]
+}
+
+// Tag and digest were computed by another implementation of AES-256-GCM and SHA-256; they are no standard's example.
+#[test]
+fn a_manifest_of_two_chunks_has_its_tag_and_bytes(rt: HostRuntime) -> Result<(), Fail> {
+    let alloc = rt.alloc();
+    let mut keys = KeyTable::new(alloc);
+    let mut names = Vec::new(alloc);
+    for (name, key) in [(1u8, 33u8), (101, 150)] {
+        keys.push(ChunkKey { bytes: ramp(key) })?;
+        names.push(Name { bytes: ramp(name) })?;
+    }
+    let nonce = [0, 0, 0, 7, 1, 2, 3, 4, 5, 6, 7, 8];
+    let tenant = TenantKey { bytes: ramp(200) };
+    if keys.count() != 2 || names.len() != 2 {
+        return Err("two keys were pushed".into());
+    }
+    let manifest = make_manifest(alloc, 600_000, names, &keys, nonce, &tenant)?;
+    assert_eq!(rt; manifest.root(), 7);
+    assert_eq!(rt; manifest.number(), 0x0102030405060708);
+    assert!(rt; *manifest.tag() == 0x41f949bf27c47d0223eee6c84da4ae08u128.to_be_bytes());
+    let bytes = manifest.print(alloc)?;
+    assert_eq!(rt; bytes.len(), 180);
+    let digest = Sha256::digest(bytes.as_slice());
+    assert!(rt;
+        are(
+            &digest,
+            0x781fe0d238282a3c8892944f1b26c8cf,
+            0x7dabdd7a1d22c90627cb836ec6fb3773
+        )
+    );
+    Ok(())
 }

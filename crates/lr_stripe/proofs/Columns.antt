@@ -3,21 +3,11 @@ use Rattle.std.proofs.Common.{◌≡◌, ◌≢◌, ℕ, ◌+◌, ◌*◌, ◌^�
 use Rattle.std.specs.List.{range_with_len}
 use Rattle.std.proofs.lemmas.List.{get_or-take, get_or-drop, take_more}
 use Rattle.std.proofs.lemmas.List.FromFn.{length-range_with_len, get_or-range_with_len, length-map-range_with_len, get_or-map-range_with_len, map-range_with_len_more}
-use lib.Bits.{xor_assoc, xor_zero_r}
 use Rattle.std.proofs.lemmas.Nat.{rows}
 use Rattle.lr_field.specs.Field.{product}
 use Rattle.lr_field.specs.Polynomial.{AreBytes, IsDistinct, IsOnPolynomial, GivesValue, weighted, value_at}
-use Rattle.lr_field.proofs.Polynomials.{AreBytes_from}
-use Rattle.lr_field.proofs.Fixed.{any_values}
+use Rattle.lr_field.proofs.Public.{AreBytes_from, any_values, weighted_push}
 use Rattle.lr_stripe.specs.Code.{points, column, part_of, IsStripe}
-
-weighted_push : (ws vs : List ℕ) (w v : ℕ) → length ws ≡ length vs → weighted (ws ++ w ∷ []) (vs ++ v ∷ []) ≡ bit_xor (weighted ws vs) (product w v)
-unfolding weighted
-weighted_push [] [] w v e = xor_zero_r (product w v)
-weighted_push [] (y ∷ vs) w v e = absurd (omega arith)
-weighted_push (x ∷ ws) [] w v e = absurd (omega arith)
-weighted_push (x ∷ ws) (y ∷ vs) w v e =
-    ap (bit_xor (product x y)) (weighted_push ws vs w v (omega arith)) ∙ sym (xor_assoc (product x y) (weighted ws vs) (product w v))
 
 pub length-column : (n len t : ℕ) (b : List ℕ) → length (column n len t b) ≡ n
 length-column n len t b = length-map-range_with_len (λ i. slice_index b (len * i + t)) 0 n

@@ -1,2 +1,4 @@
-pub mod Columns
-pub mod Rebuilt
+mod Columns
+mod Rebuilt
+mod Chunks
+pub mod Public

@@ -1,7 +1,7 @@
 -- A code of k of n stripes, by polynomials over the field of 256 elements.
-use Rattle.std.specs.Prelude.{◌≡◌, ℕ, ◌+◌, ◌*◌, ◌<◌, List, length, map, slice_index, slice_index_or, take, drop, []}
+use Rattle.std.specs.Prelude.{◌≡◌, ℕ, ◌+◌, ◌*◌, ◌<◌, ◌≤◌, List, length, map, slice_index, slice_index_or, take, drop, []}
 use Rattle.std.specs.List.{range_with_len}
-use Rattle.lr_field.specs.Polynomial.{AreBytes, IsOnPolynomial, value_at}
+use Rattle.lr_field.specs.Polynomial.{AreBytes, IsDistinct, IsOnPolynomial, value_at}
 
 -- the points 0, 1, .. of the first n values: a point is the byte of this number
 abbrev pub points : ℕ → List ℕ
@@ -37,3 +37,12 @@ abbrev pub StripesAreCodeword : Type 0
 StripesAreCodeword = (k len : ℕ) (chunk : List ℕ) (stripes : List (List ℕ)) → 0 < length stripes
     → ((j : ℕ) → j < length stripes → (length (slice_index_or stripes j []) ≡ len) × IsStripe k chunk j (slice_index_or stripes j []))
     → (t : ℕ) → t < len → IsCodeword k (map (λ s. slice_index s t) stripes)
+
+-- Any k stripes of one length, at different indices, are those of exactly one chunk.
+abbrev pub StripesAreOfOneChunk : Type 0
+StripesAreOfOneChunk = (k len : ℕ) (indices stripes : List ℕ) → 0 < k → k ≤ 32 → 0 < len → AreBytes indices → IsDistinct indices → length indices ≡ k → AreBytes stripes
+    → length stripes ≡ k * len → (chunk : List ℕ) × (AreStripes k len chunk indices stripes × ((other : List ℕ) → AreStripes k len other indices stripes → other ≡ chunk))
+
+-- A chunk has one stripe of each index.
+abbrev pub ChunkHasOneStripe : Type 0
+ChunkHasOneStripe = (k : ℕ) (chunk : List ℕ) (j : ℕ) (a b : List ℕ) → 0 < k → IsStripe k chunk j a → IsStripe k chunk j b → a ≡ b

@@ -14,5 +14,5 @@ mod stripe;
 mod tests;
 
 pub use code::Code;
-pub use laws::stripes_are_a_codeword;
+pub use laws::{a_chunk_has_one_stripe, stripes_are_a_codeword, stripes_are_of_one_chunk};
 pub use stripe::{STRIPE, Stripe, StripeBytes};

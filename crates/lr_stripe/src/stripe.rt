@@ -40,13 +40,6 @@ impl StripeBytes {
     {
         &self.bytes
     }
-
-    /// The bytes as a vector. It takes no memory.
-    pub fn into_vec(self) -> Vec<u8>
-        ensures { result.items ≡ self }
-    {
-        self.bytes
-    }
 }
 
 /// A stripe as a node keeps it: of which chunk it is, which of the five, its bytes and the digest that was made of

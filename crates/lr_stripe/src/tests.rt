@@ -1,3 +1,4 @@
+//! The code by hand, and stripes whose digests come from outside.
 ghost use Rattle.std.specs.Prelude.{◌≡◌, ◌<◌, length, IfOk};
 
 use crate::{Code, STRIPE, Stripe};
@@ -13,6 +14,7 @@ fn stripe_of_four(chunk: [u8; 4], j: u8) -> u8
     out[0]
 }
 
+// Each by hand, in the field of FIPS 197, section 4; none is a standard's example.
 #[test]
 fn code_vectors(rt: HostRuntime) {
     let mut out = [0u8; 1];
@@ -67,5 +69,42 @@ fn a_stripe_is_good_until_it_is_damaged(rt: HostRuntime) -> Result<(), Fail> {
         ..stripe
     };
     assert!(rt; !damaged.good(chunk.name(), 4));
+    Ok(())
+}
+
+// The chunk whose byte i is 7 i + i / 1000, modulo 256.
+fn sloping_chunk(alloc: Global) -> Result<Chunk, AllocError> {
+    let mut bytes = filled(alloc, CHUNK, 0)?;
+    for (i, byte) in bytes.iter_mut().enumerate() {
+        *byte = ((7 * i + i / 1000) % 256) as u8;
+    }
+    Ok(Chunk::of(bytes))
+}
+
+// Whether the 32 bytes are these two numbers, big-endian.
+fn are(bytes: &[u8; 32], high: u128, low: u128) -> bool {
+    bytes[..16] == high.to_be_bytes()[..] && bytes[16..] == low.to_be_bytes()[..]
+}
+
+// The digests were computed by another implementation of the code and of SHA-256.
+#[test]
+fn stripes_of_a_sloping_chunk_have_their_digests(rt: HostRuntime) -> Result<(), Fail> {
+    let chunk = sloping_chunk(rt.alloc())?;
+    for (index, high, low) in [
+        (
+            4u8,
+            0x666ec72c5363daa17022b2de3b2f1fe1u128,
+            0xf943dbd88f88bc7bdea7b532474135b6u128,
+        ),
+        (
+            2,
+            0x7b0817b88d1f6711b76fcc3fdbeae486,
+            0xbc1b026b8acbb6f50f21b53ce57884ff,
+        ),
+    ] {
+        assert!(rt; index < 5);
+        let stripe = Stripe::make(rt.alloc(), &chunk, index)?;
+        assert!(rt; are(&stripe.digest, high, low), "stripe {index}");
+    }
     Ok(())
 }

@@ -1,3 +1,4 @@
+//! Words, numbers, names, keys, runs and lists of bytes, by tables.
 use crate::{
     ImageName, cut_at, key_of, number_between, number_of, parts, place_of, put_bytes, put_key,
     put_number, put_run, run_of, runs_of,
@@ -210,5 +211,32 @@ fn numbers_and_runs_print_as_they_are_read(rt: HostRuntime) -> Result<(), Fail> 
     out.push(b' ')?;
     put_run(&mut out, 12, 0xab)?;
     assert_eq!(rt; out.as_slice(), b"0 18446744073709551615 12xab".as_slice());
+    Ok(())
+}
+
+// The longest line that a script has, and as many bytes as a read may give.
+#[test]
+fn the_longest_inputs_are_read_and_printed(rt: HostRuntime) -> Result<(), Fail> {
+    let alloc = rt.alloc();
+    let mut line = Vec::from_slice(alloc, b"1x41")?;
+    for _ in 1..819u32 {
+        line.extend_from_slice(b" 1x41")?;
+    }
+    assert_eq!(rt; line.len(), 4_094);
+    let words = parts(alloc, &line, b' ')?;
+    assert_eq!(rt; words.len(), 819);
+    let Some(runs) = runs_of(alloc, &words, 819)? else {
+        return Err("the runs were refused".into());
+    };
+    assert_eq!(rt; runs.len(), 819);
+    let many = vec![in alloc; 7u8; 1_048_576]?;
+    assert_eq!(rt;
+        printed(alloc, &many)?.as_slice(),
+        b":1048576x07".as_slice()
+    );
+    let turning = turns(alloc, 1_048_576)?;
+    let mut want = Vec::from_slice(alloc, b":sha256 ")?;
+    put_key(&mut want, &Sha256::digest(turning.as_slice()))?;
+    assert_eq!(rt; printed(alloc, &turning)?.as_slice(), want.as_slice());
     Ok(())
 }

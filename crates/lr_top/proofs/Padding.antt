@@ -5,7 +5,7 @@ use Rattle.std.proofs.lemmas.List.Sums.{sum_by-cons}
 use Rattle.lr_text.specs.Words.{run_sum}
 use Rattle.lr_text.specs.Bytes.{bytes_of_runs}
 use Rattle.lr_layout.specs.Padded.{padded, padded_length}
-use Rattle.lr_script.specs.Seen.{ImageSeen}
+use Rattle.lr_single.specs.Seen.{ImageSeen}
 use Rattle.lr_top.specs.Raw.{raw_bytes}
 
 pub length-bytes_of_runs : (runs : List (ℕ × ℕ)) → length (bytes_of_runs runs) ≡ run_sum runs

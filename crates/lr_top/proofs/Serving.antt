@@ -1,15 +1,15 @@
 -- One job more.
 use Rattle.std.proofs.Common.{◌≡◌, ℕ, ◌+◌, ◌<◌, List, take, get_or, [], ◌∷◌, ◌++◌, length, map, replicate, sym, ap, ◌∙◌, refl, subst, append_assoc, length-append}
 use Rattle.std.proofs.lemmas.List.{append-nil, map-append, replicate-append-replicate, take_more}
-use Rattle.lr_device.specs.PlainState.{PlainState}
-use Rattle.lr_device.specs.PlainDevice.{plain_reply, plain_after, IsLegal}
-use Rattle.lr_device.specs.declared.plain.Entry.{Entry}
-use Rattle.lr_device.specs.declared.plain.DeviceCall.{DeviceCall}
-use Rattle.lr_device.specs.declared.plain.DeviceReply.{DeviceReply}
-use Rattle.lr_device.proofs.Histories.{IsLegal-append, bytes_after-append, length-bytes_after}
+use Rattle.lr_plain.specs.PlainState.{PlainState}
+use Rattle.lr_plain.specs.PlainDevice.{plain_reply, plain_after, IsLegal}
+use Rattle.lr_plain.specs.declared.plain.Entry.{Entry}
+use Rattle.lr_plain.specs.declared.plain.DeviceCall.{DeviceCall}
+use Rattle.lr_plain.specs.declared.plain.DeviceReply.{DeviceReply}
+use Rattle.lr_plain.proofs.Histories.{IsLegal-append, bytes_after-append, length-bytes_after}
 use Rattle.lr_layout.specs.Padded.{padded}
-use Rattle.lr_script.specs.declared.script.Job.{Job}
-use Rattle.lr_script.specs.Seen.{ScriptSeen}
+use Rattle.lr_single.specs.declared.script.Job.{Job}
+use Rattle.lr_single.specs.Seen.{ScriptSeen}
 use Rattle.lr_top.specs.Raw.{raw_bytes}
 use Rattle.lr_top.specs.Served.{call_of, Serves, HasServed}
 

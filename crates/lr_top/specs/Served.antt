@@ -1,14 +1,14 @@
 -- What a device answered to the jobs of a script.
 use Rattle.std.specs.Prelude.{◌≡◌, ◌++◌, List, map, length, replicate}
 use Rattle.lr_layout.specs.Padded.{padded}
-use Rattle.lr_device.specs.PlainState.{PlainState}
-use Rattle.lr_device.specs.PlainDevice.{IsLegal, bytes_after}
-use Rattle.lr_device.specs.declared.plain.Entry.{Entry}
-use Rattle.lr_device.specs.declared.plain.DeviceCall.{DeviceCall}
-use Rattle.lr_device.specs.declared.plain.DeviceCall.TheVariants as call
-use Rattle.lr_script.specs.declared.script.Job.{Job}
-use Rattle.lr_script.specs.declared.script.Job.TheVariants as job
-use Rattle.lr_script.specs.Seen.{ScriptSeen}
+use Rattle.lr_plain.specs.PlainState.{PlainState}
+use Rattle.lr_plain.specs.PlainDevice.{IsLegal, bytes_after}
+use Rattle.lr_plain.specs.declared.plain.Entry.{Entry}
+use Rattle.lr_plain.specs.declared.plain.DeviceCall.{DeviceCall}
+use Rattle.lr_plain.specs.declared.plain.DeviceCall.TheVariants as call
+use Rattle.lr_single.specs.declared.script.Job.{Job}
+use Rattle.lr_single.specs.declared.script.Job.TheVariants as job
+use Rattle.lr_single.specs.Seen.{ScriptSeen}
 use Rattle.lr_top.specs.Raw.{raw_bytes}
 
 -- the device call of a job

@@ -1,8 +1,8 @@
 -- What the top call answers.
 use Rattle.std.specs.Prelude.{◌≡◌, ℕ, ◌⊎◌, ◌++◌, List, [], codes, decimal, length, Option, Some}
 use Rattle.lr_spec.specs.Told.{Told}
-use Rattle.lr_script.specs.Seen.{ScriptSeen}
-use Rattle.lr_script.specs.Grammar.{Spells, FirstOutside}
+use Rattle.lr_single.specs.Seen.{ScriptSeen}
+use Rattle.lr_single.specs.Grammar.{Spells, FirstOutside}
 use Rattle.lr_report.specs.Report.{report_text}
 use Rattle.lr_report.specs.declared.run.Run.{Run}
 use Rattle.lr_top.specs.declared.outcome.RunRecord.{RunRecord}

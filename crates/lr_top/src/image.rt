@@ -5,7 +5,7 @@ ghost use Rattle.lr_layout.specs.Padded.{padded};
 ghost use Rattle.lr_top.specs.Raw.{raw_bytes};
 
 use lr_layout::padded_len;
-use lr_script::ImageBody;
+use lr_single::ImageBody;
 use lr_spec::OutOfMemory;
 use std::alloc::Global;
 

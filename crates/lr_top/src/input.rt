@@ -4,7 +4,7 @@ ghost use Rattle.lr_top.specs.Top.{IsReadAs, IsOutsideAt, HasNoLineOutside};
 ghost use Rattle.lr_top.specs.Input.{IfOutside};
 
 use lr_io::{ReadError, Source, read_up_to};
-use lr_script::{Script, ScriptError};
+use lr_single::{Script, ScriptError};
 use std::alloc::Global;
 
 // Bytes of a script.

@@ -2,7 +2,7 @@ ghost use Rattle.std.specs.Prelude.{◌≡◌, ◌≢◌, ◌⊎◌, ◌↔◌, 
 ghost use Rattle.lr_spec.specs.Rose.{Rose};
 ghost use Rattle.lr_spec.specs.Told.{Told};
 ghost use Rattle.lr_io.specs.Streams.{Appends, AppendsFront};
-ghost use Rattle.lr_script.specs.Grammar.{FirstOutside};
+ghost use Rattle.lr_single.specs.Grammar.{FirstOutside};
 ghost use Rattle.lr_top.specs.Served.{HasServed};
 ghost use Rattle.lr_top.specs.Top.{IsReadAs, IsOutsideAt, report_of, MatchRun, refusal, IsStatus};
 ghost use Rattle.lr_top.specs.declared.outcome.RunRecord.TheVariants as record_of;

@@ -2,8 +2,8 @@ ghost use Rattle.std.specs.Prelude.{◌≡◌, ◌++◌, IfOk, OnOk, map, take, 
 ghost use Rattle.lr_top.specs.Served.{HasServed, Serves, call_of};
 
 use crate::image::device_bytes;
-use lr_device::{DeviceCall, Plain};
-use lr_script::{Job, Script};
+use lr_plain::{DeviceCall, Plain};
+use lr_single::{Job, Script};
 use lr_spec::OutOfMemory;
 use std::alloc::Global;
 

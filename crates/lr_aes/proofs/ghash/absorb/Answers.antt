@@ -16,5 +16,5 @@ loop-i-preserved c = λ h has lh.
     let f : ℕ → ℕ = block_at c.args.bytes.now in
     let i : ℕ = c.loop-i.i in
     c.times_key-next.ensures h has lh
-    ∙ ap (λ (x : ℕ). block_product x h) (λ k. bit_xor (c.loop-i.invariant h has lh k) (c.block_of.ensures k))
+    ∙ ap (λ (x : ℕ). block_product x h) (λ k. bit_xor (c.loop-i.invariant h has lh k) (c.block_at.ensures k))
     ∙ sym (ap (running h c.args.y) (map-range_with_len_more f 0 i i (omega arith)) ∙ running-more h c.args.y (f i) (map f (range_with_len 0 i)))

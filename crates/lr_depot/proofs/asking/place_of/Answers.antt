@@ -2,7 +2,7 @@ use Rattle.std.proofs.Common.{Some, sym, ap, ◌∙◌}
 use Rattle.std.specs.Arc.{arc_value}
 use Rattle.std.specs.Option.{option_copied}
 use Rattle.std.specs.List.{slice_get}
-use Rattle.lr_manifest.specs.Manifest.{Fields}
+use Rattle.lr_manifest.specs.Manifest.{ManifestFields}
 use Rattle.lr_rules.proofs.Serving.{leased_home}
 use Rattle.lr_depot.specs.Kernel.{state_of}
 use Rattle.lr_depot.proofs.Ready.{ready_sound}
@@ -24,7 +24,7 @@ returns-clause-place c = record {
     home = c.home_key-key.ensures.0;
     name = c.in-Some-name_at.name;
     out = sym c.get.ensures ∙ ap option_copied c.in-Some.is ∙ ap Some (sym c.entry.view_is);
-    named = ap (λ (m : Fields). slice_get m.names c.args.index) (sym c.deref.ensures) ∙ sym c.name_at.ensures ∙ c.in-Some-name_at.is;
+    named = ap (λ (m : ManifestFields). slice_get m.names c.args.index) (sym c.deref.ensures) ∙ sym c.name_at.ensures ∙ c.in-Some-name_at.is;
     homed = c.home_key-key.ensures.1;
     key = c.home_key-key.ensures.2;
   };

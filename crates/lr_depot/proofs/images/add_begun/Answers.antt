@@ -1,8 +1,9 @@
-use Rattle.std.proofs.Common.{◌≡◌, ℕ, Some, sym, ◌∙◌}
+use Rattle.std.proofs.Common.{◌≡◌, ℕ, Some, ◌∙◌}
 use Rattle.std.specs.FinMap as map
-use Rattle.lr_rules.specs.State.{Session, Creates as Creation}
+use Rattle.lr_rules.specs.State.{Session}
+use Rattle.lr_depot.specs.Sessions.{IsCreation}
 use Rattle.lr_depot.proofs.Added.{added_start, added_step, added_end, adds_like}
-use Rattle.lr_depot.proofs.Begun.{IsCreation, same_image, creation_of, of_creation}
+use Rattle.lr_depot.proofs.Begun.{creation_of, of_creation}
 use Rattle.lr_depot.proofs.Numbers.{listed, has_listed}
 use Rattle.lr_depot.proofs.images.add_begun.Goals as goal
 
@@ -16,14 +17,8 @@ loop-session-init c =
 pub loop-session-preserved : goal.loop-session-preserved
 loop-session-preserved c =
     let m = c.args.sessions.now in
-    let v = c.args.catalog.now.view in
-    let own = c.session.inside in
-    let s = c.in-Some.session.now in
-    added_step v (λ (e : ℕ × Session). map.get m e.0 ≡ Some e.1) (λ i e. IsCreation i e.1) c.args.others.now.items c.loop-session.others.items c.add_image.new.others.items _ _ (c.in-Some.field-0-0.now, s) c.in-Some.ensures.steps
-    (adds_like v (λ i. i ≡ own.image) (λ i. IsCreation i s) _ _
-    (λ i same. (own.caller, own.root, own.number, sym c.session.view_is ∙ (λ j. record { caller = own.caller; job = Creation (sym same j) own.root own.number })))
-    (λ i is. sym (same_image s own.caller own.root own.number own.image i c.session.view_is is)) c.in_ok-add_image.ensures)
-    c.loop-session.invariant
+    added_step c.args.catalog.now.view (λ (e : ℕ × Session). map.get m e.0 ≡ Some e.1) (λ i e. IsCreation i e.1) c.args.others.now.items c.loop-session.others.items c.add_created.new.others.items _ _
+    (c.in-Some.field-0-0.now, c.in-Some.session.now) c.in-Some.ensures.steps c.in_ok-add_created.ensures c.loop-session.invariant
 
 pub returns : goal.returns
 returns c =

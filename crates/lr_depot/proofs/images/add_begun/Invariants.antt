@@ -1,7 +1,7 @@
 use Rattle.std.proofs.Common.{◌≡◌, ℕ, Some}
 use Rattle.std.specs.FinMap as map
 use Rattle.lr_rules.specs.State.{Session}
-use Rattle.lr_depot.proofs.Begun.{IsCreation}
+use Rattle.lr_depot.specs.Sessions.{IsCreation}
 use Rattle.lr_depot.proofs.Added.{AreAdded}
 use Rattle.lr_depot.proofs.images.add_begun.Given as goal
 

@@ -1,5 +1,5 @@
 use Rattle.std.proofs.Common.{◌≡◌, true, false, None, refl, sym, ◌∙◌}
-use Rattle.lr_manifest.specs.Manifest.{is_short, lacks_magic, is_other_version, has_wrong_fields, has_other_length, first_fault, IsSound}
+use Rattle.lr_manifest.specs.Manifest.{is_short, lacks_magic, is_other_version, has_wrong_fields, has_other_length, first_fault, HasNoFault}
 use Rattle.lr_manifest.proofs.Faults.{by_tests, sound_of}
 use Rattle.lr_manifest.proofs.parse.fault_of.Goals as goal
 
@@ -51,5 +51,5 @@ returns c =
     let b = c.args.bytes.now in
     let none : None ≡ first_fault b = sym (by_tests b false false false false false (sym c.is_short.ensures ∙ c.if-is_short.false) (sym c.lacks_magic.ensures ∙ c.if-lacks_magic.false)
     (sym c.is_other_version.ensures ∙ c.if-is_other_version.false) (sym c.has_wrong_fields.ensures ∙ c.if-has_wrong_fields.false) (sym c.has_other_length.ensures ∙ c.if-has_other_length.false)) in
-    let sound : IsSound b = sound_of b (sym none) in
+    let sound : HasNoFault b = sound_of b (sym none) in
     record { first = none; sound = sound; long = sound.long; whole = sound.whole }

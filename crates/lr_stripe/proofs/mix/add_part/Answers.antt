@@ -1,7 +1,7 @@
 use Rattle.std.proofs.Common.{◌≡◌, ℕ, bit_xor, slice_index, sym, ap, ◌∙◌}
 use lib.Bits.{xor_zero_r}
 use Rattle.lr_field.specs.Field.{product}
-use Rattle.lr_field.proofs.FieldLaws.{zero-product}
+use Rattle.lr_field.proofs.Public.{zero-product}
 use Rattle.lr_stripe.proofs.mix.add_part.Goals as goal
 
 pub returns-then-weight-eq0 : goal.returns-then-weight-eq0

@@ -2,7 +2,7 @@ use Rattle.std.proofs.Common.{◌≡◌, ◌≤◌, ◌∙◌, length, arith, ap
 use Rattle.std.proofs.lemmas.Grind.{common_steps}
 use Rattle.lr_text.specs.Bytes.{bytes_of_runs}
 use Rattle.lr_layout.specs.Padded.{padded, padded_length}
-use Rattle.lr_script.specs.Seen.{ImageSeen}
+use Rattle.lr_single.specs.Seen.{ImageSeen}
 use Rattle.lr_top.specs.Raw.{raw_bytes}
 use Rattle.lr_top.proofs.Padding.{is_padded, bytes_fit}
 use Rattle.lr_top.proofs.image.device_bytes.Goals as goal

@@ -1,4 +1,4 @@
-use Rattle.lr_script.specs.declared.script.Job.TheVariants.{Read}
+use Rattle.lr_single.specs.declared.script.Job.TheVariants.{Read}
 use Rattle.lr_top.proofs.Serving.{serves_at}
 use Rattle.lr_top.proofs.serve.make_calls.Goals as goal
 

@@ -1,6 +1,6 @@
 use Rattle.std.proofs.Common.{◌∙◌, List, subst}
-use Rattle.lr_script.specs.declared.script.Job.{Job}
-use Rattle.lr_script.specs.Seen.{ScriptSeen}
+use Rattle.lr_single.specs.declared.script.Job.{Job}
+use Rattle.lr_single.specs.Seen.{ScriptSeen}
 use Rattle.lr_top.specs.Served.{Serves, HasServed}
 use Rattle.lr_top.proofs.Serving.{has_served}
 use Rattle.lr_top.proofs.serve.serve.Goals as goal

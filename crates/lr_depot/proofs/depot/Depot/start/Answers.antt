@@ -4,9 +4,11 @@ use Rattle.std.specs.FinMap.{len-empty}
 use Rattle.std.specs.Ordering.{nat_cmp}
 use Rattle.lr_roots.specs.Catalog.{Seen}
 use Rattle.lr_roots.specs.Names.{IsGreatestNumber}
-use Rattle.lr_manifest.specs.Manifest.{Fields}
+use Rattle.lr_manifest.specs.Manifest.{ManifestFields}
 use Rattle.lr_rules.specs.State.{Session}
 use Rattle.lr_depot.proofs.Starting.{greatest_within, started_whole, is_start}
+use Rattle.lr_origin.specs.declared.key.KeyKind.TheVariants as kind
+use Rattle.lr_depot.proofs.Making.{none_doubted}
 use Rattle.lr_depot.proofs.depot.Depot.start.Goals as goal
 
 pub overflow_add-next_number : goal.overflow_add-next_number
@@ -20,15 +22,15 @@ invariant_of-result g c =
     (λ m told. (c.in-Ok.ensures.whole m (ap g.O.Origin.objects (sym c.of-opening.ensures) ∙ told)).0))
     (c.open.ensures.same ∙ ap g.O.Origin.objects (sym c.of-opening.ensures))
     (subst (λ o. g.O.Origin.faults o ≤ g.O.Origin.faults c.open.new.origin) (sym c.of-opening.ensures) c.open.ensures.never_falls)
-    c.new-4.ensures.items
-    (record { aside = c.in-Ok.ensures.aside; view = sym found; doubts = c.new.ensures; leases = c.new-2.ensures; sessions = c.new-3.ensures; next_lease = refl; next_session = refl; next_number = sym c.of-number.ensures })
-    (omega (arith, ap map.len c.new-2.ensures, ap map.len c.new-3.ensures, len-empty nat_cmp (List ℕ × Fields), len-empty nat_cmp Session))
+    c.new-5.ensures.items
+    (record { aside = c.in-Ok.ensures.aside; view = sym found; doubts = c.new.ensures; leases = c.new-3.ensures; sessions = c.new-4.ensures; next_lease = refl; next_session = refl; next_number = sym c.of-number.ensures; makers = λ r image some away. absurd (none_doubted _ c.new.ensures (kind.Manifest r image) some) })
+    (omega (arith, ap map.len c.new-3.ensures, ap map.len c.new-4.ensures, len-empty nat_cmp (List ℕ × ManifestFields), len-empty nat_cmp Session))
 
 pub returns-clause-started : goal.returns-clause-started
 returns-clause-started g c =
     let found : c.of-found.result.value.view ≡ c.in-Ok.catalog.view = ap (λ (s : Seen). s.view) c.of-found.ensures in
     record {
-      log = c.new-4.ensures.items;
+      log = c.new-5.ensures.items;
       told = ap g.O.Origin.objects c.of-opening.ensures;
       failed = ap g.O.Origin.faults c.of-opening.ensures;
       start = is_start _ c.in-Ok.catalog.view c.greatest_number.result found c.of-number.ensures c.in-Ok.ensures.sound c.in-Ok.ensures.names c.greatest_number.ensures

@@ -12,7 +12,7 @@ use Rattle.lr_depot.proofs.kernel.Kernel.begin_create.Goals as goal
 
 pub returns-then-count : goal.returns-then-count
 returns-then-count c = record {
-  served = λ makers. moves_logged (state_of c.args.self.now makers) c.args.self.now c.args.caller (BeginCreate c.args.image) (noted.BeginCreate c.args.image) c.logged-then-count.result reply.Full told.Full c.logged-then-count.ensures (
+  served = λ makers own. moves_logged (state_of c.args.self.now makers) c.args.self.now c.args.caller (BeginCreate c.args.image) (noted.BeginCreate c.args.image) c.logged-then-count.result reply.Full told.Full c.logged-then-count.ensures (
     record {
       root = (c.roots-root.result, omega (arith, c.if-root-eq0.false), c.roots-root.ensures);
       free = λ taken. elim taken [ inl named ↦ is_not c.is_named.ensures c.if-is_named.false named | inr begun ↦ is_not c.is_begun.ensures c.if-is_begun.false begun ];
@@ -20,7 +20,7 @@ returns-then-count c = record {
     c.in_default.ensures,
     inl (enough_of_many (IsImage (state_of c.args.self.now makers)) c.in-Ok.count 1024 (c.in-Ok.ensures (state_of c.args.self.now makers) refl refl refl) (omega (arith, c.if-count.true))),
   ) refl refl
-      (record { aside = c.requires.ready.aside; view = refl; doubts = refl; leases = refl; sessions = refl; next_lease = refl; next_session = refl; next_number = refl });
+      (record { aside = c.requires.ready.aside; view = refl; doubts = refl; leases = refl; sessions = refl; next_lease = refl; next_session = refl; next_number = refl; makers = own });
 }
 
 pub begin-requires-clause-begins : goal.begin-requires-clause-begins

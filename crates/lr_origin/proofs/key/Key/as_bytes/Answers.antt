@@ -1,6 +1,6 @@
 use Rattle.std.proofs.Common.{◌≡◌, ℕ, List, length, take, ap, sym, subst, ◌∙◌}
 use Rattle.lr_text.specs.Name.{padded}
-use Rattle.lr_text.specs.Padded.{padded_take}
+use Rattle.lr_text.proofs.Public.{padded_take}
 use Rattle.lr_origin.specs.Text.{key_text, IsKind}
 use Rattle.lr_origin.proofs.key.Key.as_bytes.Goals as goal
 

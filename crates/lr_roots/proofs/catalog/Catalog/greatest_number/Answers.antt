@@ -1,6 +1,6 @@
 use Rattle.std.proofs.Common.{◌≡◌, ◌≤◌, ℕ, max, refl, ap, sym, subst, ◌∙◌, inl, inr, arith}
 use mathlib.Core.Logic.{◌⊎◌}
-use Rattle.lr_manifest.specs.Manifest.{Fields}
+use Rattle.lr_manifest.specs.Manifest.{ManifestFields}
 use Rattle.lr_origin.specs.declared.key.KeyKind.{KeyKind}
 use Rattle.lr_roots.specs.View.{View}
 use Rattle.lr_roots.specs.Names.{HasNumber, IsManifestAt, number_of}
@@ -31,7 +31,7 @@ loop-key-preserved c =
     let n = c.loop-key.greatest in
     let x = c.number_at.result in
     let key : KeyKind = c.in-Some.key.now in
-    let own : (m : Fields) → IsManifestAt v key m → number_of m ≤ max n x =
+    let own : (m : ManifestFields) → IsManifestAt v key m → number_of m ≤ max n x =
     λ m at. within (number_of m) n x (c.number_at.ensures.same m (subst (λ k. IsManifestAt v k m) (sym c.kind.ensures.same) at)) in
     let both : AreGreaterLeft v (max n x) c.next.new.self × (HasNumber v (max n x) ⊎ (max n x ≡ 0)) = (
       greater_step v _ _ key n (max n x) c.in-Some.ensures.steps (grows n x) own c.loop-key.invariant.0,

@@ -1,13 +1,13 @@
 use Rattle.std.proofs.Common.{◌≡◌, Option, Some, None, inl, rules}
 use Rattle.std.specs.Arc.{arc_value}
 use Rattle.std.specs.FinMap as map
-use Rattle.lr_manifest.specs.Manifest.{Fields}
+use Rattle.lr_manifest.specs.Manifest.{ManifestFields}
 use Rattle.lr_origin.specs.declared.key.KeyKind.TheVariants as kind
 use Rattle.lr_roots.specs.View.{Held, salt, manifest, bare}
 use Rattle.lr_roots.specs.Catalog.{manifest_of}
 use Rattle.lr_roots.proofs.catalog.Catalog.number_at.Goals as goal
 
-kept : (o : Option Held) (m : Fields) → Some m ≡ manifest_of o → o ≡ Some (manifest m)
+kept : (o : Option Held) (m : ManifestFields) → Some m ≡ manifest_of o → o ≡ Some (manifest m)
 kept None m e = cc
 kept (Some (salt s)) m e = cc
 kept (Some bare) m e = cc

@@ -1,4 +1,4 @@
-use Rattle.std.proofs.Common.{◌≡◌, ℕ, ◌+◌, ◌<◌, ap, length, rules, tests, arith}
+use Rattle.std.proofs.Common.{◌≡◌, ℕ, ◌+◌, ◌<◌, ap, length, rules, tests, arith, sym, ◌∙◌}
 use Rattle.lr_script.proofs.Fronts.{at_start, reached_more, next_outside, end_outside, spells}
 use Rattle.lr_script.proofs.script.Script.parse.Goals as goal
 
@@ -16,12 +16,12 @@ returns-then-not-branch-clause-outside c =
 pub returns-then-not-is_empty-clause-outside : goal.returns-then-not-is_empty-clause-outside
 returns-then-not-is_empty-clause-outside c =
     let n : c.lines-number-2.result + 1 ≡ c.loop-line.reading.lines + 1 = ap (λ (n : ℕ). n + 1) c.lines-number-2.ensures.same in
-    end_outside c.args.bytes.now c.loop-line.rest.now c.loop-line.reading (c.lines-number-2.result + 1) c.loop-line.invariant n c.in_default.ensures.none (λ script e whole. let some : 0 < length c.loop-line.rest.now = search (rules, tests) in absurd (omega (arith, ap length e)))
+    end_outside c.args.bytes.now c.loop-line.rest.now c.loop-line.reading (c.lines-number-2.result + 1) c.loop-line.invariant n c.in_default.ensures.none (λ e. let some : 0 < length c.loop-line.rest.now = search (rules, tests) in absurd (omega (arith, ap length e)))
 
-pub returns-in_default-into_script-clause-outside : goal.returns-in_default-into_script-clause-outside
-returns-in_default-into_script-clause-outside c =
+pub returns-then-not-has_begun-clause-outside : goal.returns-then-not-has_begun-clause-outside
+returns-then-not-has_begun-clause-outside c =
     let n : c.lines-number-2.result + 1 ≡ c.loop-line.reading.lines + 1 = ap (λ (n : ℕ). n + 1) c.lines-number-2.ensures.same in
-    end_outside c.args.bytes.now c.loop-line.rest.now c.loop-line.reading (c.lines-number-2.result + 1) c.loop-line.invariant n c.in_default.ensures.none (λ script e whole. c.in_default-into_script.ensures.only script whole)
+    end_outside c.args.bytes.now c.loop-line.rest.now c.loop-line.reading (c.lines-number-2.result + 1) c.loop-line.invariant n c.in_default.ensures.none (λ e. sym c.has_begun.ensures ∙ c.if-not-has_begun.true)
 
 pub returns-clause-spelled : goal.returns-clause-spelled
-returns-clause-spelled c = spells c.args.bytes.now c.loop-line.rest.now c.loop-line.reading c.in-Some-into_script.script c.loop-line.invariant (search (rules, tests)) c.in-Some-into_script.ensures.found
+returns-clause-spelled c = spells c.args.bytes.now c.loop-line.rest.now c.loop-line.reading c.into_script.result c.loop-line.invariant (search (rules, tests)) (sym c.has_begun.ensures ∙ c.if-not-has_begun.false) c.into_script.ensures

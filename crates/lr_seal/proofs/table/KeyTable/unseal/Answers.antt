@@ -3,7 +3,7 @@ use Rattle.lr_aes.specs.Key.{encrypted}
 use Rattle.lr_aes.specs.Gcm.{gcm_text, gcm_tag}
 use Rattle.lr_manifest.specs.Manifest.{IsManifest, clear_text}
 use Rattle.lr_seal.specs.Table.{rows_of, joined_keys, HasTag, key_list}
-use Rattle.lr_seal.proofs.Pieces.{clear_long, joined_long, length-joined, length-gcm_text}
+use Rattle.lr_seal.proofs.Pieces.{clear_long, joined_long, length-joined, length-gcm_text, keys_is, keys_long}
 use Rattle.lr_seal.proofs.table.KeyTable.unseal.Goals as goal
 
 pub open_text-requires-clause-aad : goal.open_text-requires-clause-aad
@@ -28,8 +28,8 @@ returns-in-Err c = λ h.
     let keys : c.in_ok-keys.keys.items ≡ joined_keys m.sealed = c.in_ok-keys.ensures ∙ ap joined_keys c.sealed.ensures.sealed in
     c.in-Err.ensures (c.tag.ensures ∙ h ∙ sym (λ i. gcm_tag (encrypted (c.new256-key.ensures i)) (c.nonce.ensures i) (clear i) (keys i)))
 
-pub of_bytes-requires : goal.of_bytes-requires
-of_bytes-requires c =
+pub cut_rows-requires : goal.cut_rows-requires
+cut_rows-requires c =
     let m = c.args.manifest.now in
     let whole : IsManifest m = c.sealed.ensures.whole in
     let keys : c.in_ok-keys.keys.items ≡ joined_keys m.sealed = c.in_ok-keys.ensures ∙ ap joined_keys c.sealed.ensures.sealed in
@@ -44,6 +44,10 @@ returns c =
     let clear : c.deref.result.now ≡ clear_text m.raw_len m.names = c.deref.ensures.value ∙ c.in_ok-clear.ensures in
     let keys : c.in_ok-keys.keys.items ≡ joined_keys m.sealed = c.in_ok-keys.ensures ∙ ap joined_keys c.sealed.ensures.sealed in (
       sym c.tag.ensures ∙ c.in-Ok.ensures.0 ∙ (λ i. gcm_tag (encrypted (c.new256-key.ensures i)) (c.nonce.ensures i) (clear i) (keys i)),
-      c.in_ok-of_bytes-in-Ok.ensures ∙ ap (rows_of (length c.sealed-in-Ok.result.now)) (c.deref-in-Ok.ensures.value ∙ c.in-Ok.ensures.1)
+      keys_is c.in_ok-cut_rows-in-Ok.field-0.items (length c.sealed-in-Ok.result.now) c.deref-in-Ok.result.now c.in_ok-cut_rows-in-Ok.ensures.joined c.in_ok-cut_rows-in-Ok.ensures.count c.in_ok-cut_rows-in-Ok.ensures.long
+          ∙ ap (rows_of (length c.sealed-in-Ok.result.now)) (c.deref-in-Ok.ensures.value ∙ c.in-Ok.ensures.1)
           ∙ (λ i. rows_of (length (c.sealed-in-Ok.ensures.sealed i)) (gcm_text (encrypted (c.new256-key.ensures i)) (c.nonce.ensures i) (keys i))),
     )
+
+pub invariant_of-result : goal.invariant_of-result
+invariant_of-result c = keys_long c.in_ok-cut_rows-in-Ok.field-0.items c.in_ok-cut_rows-in-Ok.ensures.long

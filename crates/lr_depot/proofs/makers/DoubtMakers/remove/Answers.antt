@@ -1,0 +1,7 @@
+use Rattle.std.proofs.Common.{ap, ◌∙◌}
+use Rattle.std.specs.FinMap as map
+use Rattle.lr_depot.proofs.Tables.{removed}
+use Rattle.lr_depot.proofs.makers.DoubtMakers.remove.Goals as goal
+
+pub returns : goal.returns
+returns c = removed c.self.inside.entries c.remove.new.self c.args.key.now c.remove.ensures.updates ∙ ap (λ m. map.remove m c.args.key.now) c.self.view_is

@@ -1,0 +1,4 @@
+pub mod Progress
+pub mod Held
+pub mod Seen
+pub mod Determined

@@ -1,0 +1,3 @@
+pub mod Migration
+pub mod Progress
+pub mod Seen

@@ -1,0 +1,2 @@
+pub mod PlainDevice
+pub mod PlainState

@@ -1,0 +1,4 @@
+pub mod Stands
+pub mod Depot
+pub mod Others
+pub mod Devices

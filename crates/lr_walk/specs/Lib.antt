@@ -1,0 +1,13 @@
+pub mod Walk
+pub mod Stands
+pub mod Depot
+pub mod Cache
+pub mod Node
+pub mod Device
+pub mod Steps
+pub mod Stripes
+pub mod Load
+pub mod Calls
+pub mod Damage
+pub mod Jobs
+pub mod Trails
