@@ -1,3 +1,4 @@
+//! The task that takes digests.
 use crate::error::BenchError;
 use crate::task::{Work, Worked};
 use sha2::{Digest, Sha256};

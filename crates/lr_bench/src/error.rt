@@ -1,3 +1,4 @@
+//! Why no time was told.
 use lr_spec::OutOfMemory as NoMemory;
 use std::alloc::{AllocError, AllocFailed};
 use std::io;

@@ -1,3 +1,4 @@
+//! Tasks that seal chunks and read manifests.
 use crate::error::BenchError;
 use crate::task::{Work, Worked};
 use lr_convergent::seal_chunk;

@@ -1,3 +1,4 @@
+//! The task that reads scripts of the whole grammar.
 use crate::error::BenchError;
 use crate::task::{Work, Worked};
 use lr_script::Script;

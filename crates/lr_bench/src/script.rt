@@ -1,3 +1,4 @@
+//! Tasks that play a script.
 ghost use Rattle.std.specs.Prelude.{◌<◌, ◌≤◌};
 
 use crate::error::BenchError;

@@ -1,3 +1,4 @@
+//! Tasks that make and rebuild stripes.
 ghost use Rattle.std.specs.Prelude.{◌≡◌, length, IfOk};
 
 use crate::error::BenchError;

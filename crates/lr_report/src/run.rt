@@ -1,3 +1,4 @@
+//! A run that is reported.
 use lr_plain::Plain;
 use lr_single::Script;
 

@@ -1,3 +1,4 @@
+//! The text of a report.
 ghost use Rattle.std.specs.Prelude.{◌≡◌, ◌++◌, ◌≤◌, OnOk, IfOk, decimal, length};
 ghost use Rattle.std.specs.List.{flat_map};
 ghost use Rattle.lr_report.specs.Report.{call_text, reply_text, entry_text, result_text, results_text, device_line, device_part, actor_part, report_text};

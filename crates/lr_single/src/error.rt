@@ -1,3 +1,4 @@
+//! Why a text is no script.
 ghost use Rattle.std.specs.Prelude.{◌≡◌};
 
 use lr_spec::OutOfMemory as NoMemory;

@@ -1,3 +1,4 @@
+//! The kinds of lines, and which may come when.
 ghost use Rattle.std.specs.Prelude.{◌≡◌};
 ghost use Rattle.lr_single.specs.Kinds.{kind_of, may_come};
 

@@ -1,3 +1,4 @@
+//! The words of each kind of line.
 ghost use Rattle.std.specs.Prelude.{◌≡◌, ◌≢◌, ◌<◌, ◌≤◌, ◌∷◌, [], ◌↔◌, ℕ, List, map, length, false, IfOk, IfSome, IfNone, IsTrue, codes};
 ghost use Rattle.lr_text.specs.Words.{AreRuns, run_word};
 ghost use Rattle.lr_single.specs.State.{State};

@@ -1,3 +1,4 @@
+//! Reading a whole text.
 ghost use Rattle.std.specs.Prelude.{◌≡◌, ◌<◌, ◌≤◌, ◌++◌, ℕ, List, length, IfOk, IfErr};
 ghost use Rattle.lr_single.specs.Seen.{ScriptSeen};
 ghost use Rattle.lr_single.specs.Grammar.{Spells, FirstOutside, IfLine};

@@ -1,3 +1,4 @@
+//! What the lines so far come to.
 ghost use Rattle.std.specs.Prelude.{◌≡◌, ◌<◌, ◌≤◌, ◌+◌, ◌++◌, ◌∷◌, [], ◌↔◌, ◌⊎◌, ℕ, List, length, Some, None, IfOk, IfSome, IfNone, IsTrue};
 ghost use Rattle.lr_text.specs.Words.{IsKey, key_word};
 ghost use Rattle.lr_single.specs.Seen.{ImageSeen, ScriptSeen};

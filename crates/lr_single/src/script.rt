@@ -1,3 +1,4 @@
+//! A script with one actor and one device.
 ghost use Rattle.std.specs.Prelude.{◌≡◌};
 
 use lr_text::ImageName;

@@ -1,3 +1,4 @@
+//! One line more.
 ghost use Rattle.std.specs.Prelude.{◌≡◌, ◌<◌, ◌≤◌, ◌+◌, ◌∷◌, [], map, length, false, IfOk, IsTrue, ◌↔◌};
 ghost use Rattle.std.specs.List.{AllPass};
 ghost use Rattle.lr_text.specs.Words.{split_at_byte};

@@ -2,11 +2,11 @@
 use Rattle.std.proofs.Common.{◌≡◌, ℕ, ◌+◌, ◌<◌, List, take, get_or, [], ◌∷◌, ◌++◌, length, map, replicate, sym, ap, ◌∙◌, refl, subst, append_assoc, length-append}
 use Rattle.std.proofs.lemmas.List.{append-nil, map-append, replicate-append-replicate, take_more}
 use Rattle.lr_plain.specs.PlainState.{PlainState}
-use Rattle.lr_plain.specs.PlainDevice.{plain_reply, plain_after, IsLegal}
+use Rattle.lr_plain.specs.PlainDevice.{plain_reply, plain_after, IsLegal, bytes_after}
 use Rattle.lr_plain.specs.declared.plain.Entry.{Entry}
 use Rattle.lr_plain.specs.declared.plain.DeviceCall.{DeviceCall}
 use Rattle.lr_plain.specs.declared.plain.DeviceReply.{DeviceReply}
-use Rattle.lr_plain.proofs.Histories.{IsLegal-append, bytes_after-append, length-bytes_after}
+use Rattle.lr_plain.proofs.Histories.{IsLegal-append, bytes_after-append}
 use Rattle.lr_layout.specs.Padded.{padded}
 use Rattle.lr_single.specs.declared.script.Job.{Job}
 use Rattle.lr_single.specs.Seen.{ScriptSeen}
@@ -52,5 +52,5 @@ has_served script before after opened empty serves =
       legal = subst (λ (es : List Entry). IsLegal (padded (raw_bytes script.image)) es) (sym log) (subst (λ (bs : List ℕ). IsLegal bs serves.more) opened serves.legal);
       calls = ap (map (λ (e : Entry). e.call)) log ∙ serves.calls;
       callers = ap (map (λ (e : Entry). e.caller)) log ∙ serves.callers;
-      size = ap length serves.bytes ∙ length-bytes_after before.bytes serves.more ∙ ap length opened;
+      bytes = serves.bytes ∙ ap (λ (bs : List ℕ). bytes_after bs serves.more) opened ∙ ap (bytes_after (padded (raw_bytes script.image))) (sym log);
     }

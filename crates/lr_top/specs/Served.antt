@@ -25,9 +25,9 @@ pub record Serves (jobs : List Job) (before after : PlainState) : Type 0 where
   pub callers : map (λ e. e.caller) more ≡ replicate (length jobs) 1
 
 -- The device's history is a legal one of a plain device opened on the image's padded bytes: it has one entry
--- for each job of the script, in order, with the job's call, and all are of caller 1.
+-- for each job of the script, in order, with the job's call, all are of caller 1, and the device has the bytes after it.
 pub record HasServed (script : ScriptSeen) (device : PlainState) : Type 0 where
   pub legal : IsLegal (padded (raw_bytes script.image)) device.log
   pub calls : map (λ e. e.call) device.log ≡ map call_of script.jobs
   pub callers : map (λ e. e.caller) device.log ≡ replicate (length script.jobs) 1
-  pub size : length device.bytes ≡ length (padded (raw_bytes script.image))
+  pub bytes : device.bytes ≡ bytes_after (padded (raw_bytes script.image)) device.log

@@ -1,3 +1,4 @@
+//! An image's padded bytes.
 ghost use Rattle.std.specs.Prelude.{◌≡◌, ◌++◌, ◌≤◌, OnOk, IfOk, replicate};
 ghost use Rattle.lr_text.specs.Words.{run_sum};
 ghost use Rattle.lr_text.specs.Bytes.{bytes_of_runs};

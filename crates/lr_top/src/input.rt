@@ -1,3 +1,4 @@
+//! A script read from a source.
 ghost use Rattle.std.specs.Prelude.{◌≡◌, ◌<◌, ◌≤◌, ℕ, IfOk, IfErr, IsErrOf, Option, List};
 ghost use Rattle.lr_spec.specs.Rose.{Rose};
 ghost use Rattle.lr_top.specs.Top.{IsReadAs, IsOutsideAt, HasNoLineOutside};

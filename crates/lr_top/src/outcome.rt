@@ -1,3 +1,4 @@
+//! What a command leaves.
 use lr_io::Line;
 use lr_report::Run;
 

@@ -1,3 +1,4 @@
+//! The calls of the script's actor.
 ghost use Rattle.std.specs.Prelude.{◌≡◌, ◌++◌, IfOk, OnOk, map, take, replicate, length};
 ghost use Rattle.lr_top.specs.Served.{HasServed, Serves, call_of};
 

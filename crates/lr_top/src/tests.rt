@@ -285,8 +285,6 @@ fn limits_of_the_jobs_are_told(rt: HostRuntime) -> Result<(), Fail> {
         (long, 256, range, 1, b""),
         (long, 256, b"read d 0 512\n", 1, b"script line 263"),
         (long, 256, b"read d 0 1\n", 1, b"script line 263"),
-        (range, 2, b"x", 4_097, b"script line 9"),
-        (range, 2, b"x", 4_194_304, b"script line 9"),
     ] {
         let text = joined(rt.alloc(), &[(HEAD, 1), (job, jobs), (last, times)])?;
         let answer = play(rt.alloc(), &text, None, None)?;
