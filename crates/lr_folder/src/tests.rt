@@ -1,4 +1,4 @@
-//! A store in a folder of the system.
+//! A store in a folder of the system. The tests run in one folder, in which each has its own.
 
 use crate::DirOrigin;
 use lr_origin::{MemOrigin, Origin, Put};
@@ -40,11 +40,12 @@ fn is_listed_as(alloc: Global, store: &mut DirOrigin, keys: &[u8]) -> Result<boo
 #[test]
 fn a_folder_keeps_objects(rt: HostRuntime) -> Result<(), Fail> {
     let alloc = rt.alloc();
-    fs::create_dir(&rt, "store")?;
-    fs::create_dir(&rt, "store/empty")?;
-    fs::write(&rt, "outside", "kept")?;
-    symlink(&rt, "../outside", "store/.tmp")?;
-    let mut first = store(&rt, "store")?;
+    fs::create_dir(&rt, "kept")?;
+    fs::create_dir(&rt, "kept/store")?;
+    fs::create_dir(&rt, "kept/store/empty")?;
+    fs::write(&rt, "kept/outside", "kept")?;
+    symlink(&rt, "../outside", "kept/store/.tmp")?;
+    let mut first = store(&rt, "kept/store")?;
     assert!(rt; is_listed_as(alloc, &mut first, b"")?);
     for (key, body) in [
         (b"a/b".as_slice(), b"one".as_slice()),
@@ -72,10 +73,10 @@ fn a_folder_keeps_objects(rt: HostRuntime) -> Result<(), Fail> {
         assert!(rt; first.get(alloc, key).is_ok_and(|got| got.is_none()));
     }
     assert!(rt; is_listed_as(alloc, &mut first, b"a- a/.tmp a/b a0 ")?);
-    assert!(rt; fs::read_to_string(&rt, "outside")?.as_str() == "kept");
+    assert!(rt; fs::read_to_string(&rt, "kept/outside")?.as_str() == "kept");
 
     // Another store on the folder fails while this one lives, and then finds what was kept.
-    let mut second = store(&rt, "store")?;
+    let mut second = store(&rt, "kept/store")?;
     assert!(rt; second.next_key(alloc, None).is_err());
     assert!(rt; second.get(alloc, b"a0").is_err());
     assert!(rt; second.put(alloc, b"new", b"").is_err());
@@ -102,8 +103,8 @@ fn keeps<O: Origin>(alloc: Global, store: &mut O, key: &[u8], body: &[u8]) -> bo
 #[test]
 fn objects_have_a_largest_size(rt: HostRuntime) -> Result<(), Fail> {
     let alloc = rt.alloc();
-    fs::create_dir(&rt, "store")?;
-    let mut folder = store(&rt, "store")?;
+    fs::create_dir(&rt, "sized")?;
+    let mut folder = store(&rt, "sized")?;
     let mut body = Vec::new(alloc);
     body.resize(4_194_304, 7)?;
     assert!(rt; keeps(alloc, &mut folder, b"full", &body));
@@ -111,7 +112,7 @@ fn objects_have_a_largest_size(rt: HostRuntime) -> Result<(), Fail> {
     body.push(7)?;
     assert!(rt; folder.put(alloc, b"long", &body).is_err());
     assert!(rt; is_listed_as(alloc, &mut folder, b"full ")?);
-    fs::write(&rt, "store/long", body.as_slice())?;
+    fs::write(&rt, "sized/long", body.as_slice())?;
     assert!(rt; folder.get(alloc, b"long").is_err());
     assert!(rt; folder.put(alloc, b"long", b"").is_err());
     Ok(())
@@ -121,18 +122,19 @@ fn objects_have_a_largest_size(rt: HostRuntime) -> Result<(), Fail> {
 #[test]
 fn other_things_are_failures(rt: HostRuntime) -> Result<(), Fail> {
     let alloc = rt.alloc();
-    for missing in ["none", "", "file"] {
-        fs::write(&rt, "file", "no folder")?;
+    fs::create_dir(&rt, "refused")?;
+    for missing in ["refused/none", "", "refused/file"] {
+        fs::write(&rt, "refused/file", "no folder")?;
         let mut folder = store(&rt, missing)?;
         assert!(rt; folder.get(alloc, b"a").is_err());
         assert!(rt; folder.put(alloc, b"a", b"").is_err());
         assert!(rt; folder.delete(b"a").is_err());
         assert!(rt; folder.next_key(alloc, None).is_err());
     }
-    fs::create_dir(&rt, "store")?;
-    fs::create_dir(&rt, "store/inner")?;
-    symlink(&rt, "../file", "store/link")?;
-    let mut folder = store(&rt, "store")?;
+    fs::create_dir(&rt, "refused/store")?;
+    fs::create_dir(&rt, "refused/store/inner")?;
+    symlink(&rt, "../file", "refused/store/link")?;
+    let mut folder = store(&rt, "refused/store")?;
     for key in [
         b"inner".as_slice(),
         b"link",
@@ -153,12 +155,12 @@ fn other_things_are_failures(rt: HostRuntime) -> Result<(), Fail> {
         assert!(rt; folder.delete(key).is_err());
     }
     assert!(rt; folder.next_key(alloc, None).is_err());
-    fs::remove_file(&rt, "store/link")?;
+    fs::remove_file(&rt, "refused/store/link")?;
     assert!(rt; folder.put(alloc, b"a", b"").is_ok());
     assert!(rt; is_listed_as(alloc, &mut folder, b"a ")?);
     assert!(rt; folder.put(alloc, b"..", b"").is_err());
     assert!(rt; is_listed_as(alloc, &mut folder, b"a ")?);
-    fs::rename(&rt, "store", "moved")?;
+    fs::rename(&rt, "refused/store", "refused/moved")?;
     assert!(rt; folder.put(alloc, b"b", b"").is_err());
     assert!(rt; folder.next_key(alloc, None).is_err());
     Ok(())
