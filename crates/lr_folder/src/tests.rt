@@ -37,6 +37,24 @@ fn is_listed_as(alloc: Global, store: &mut DirOrigin, keys: &[u8]) -> Result<boo
     Ok(listed(alloc, store)?.is_some_and(|text| text.as_slice() == keys))
 }
 
+// Keys in no order, with the bodies that are put.
+const OBJECTS: &[(&[u8], &[u8])] = &[
+    (b"a/b", b"one"),
+    (b"a0", b""),
+    (b"a.c", b"two"),
+    (b"a-", b"three"),
+    (b"a/.tmp", b"four"),
+];
+
+// Keys that are deleted, the first of them from what was put.
+const ABSENT: &[&[u8]] = &[b"a.c", b"a.c", b"a/none", b"none/b", b"a0/b"];
+
+// Keys of a folder, of a link, and of no path.
+const NO_FILES: &[&[u8]] = &[
+    b"inner", b"link", b"", b"/a", b"a/", b"a//b", b"..", b"a/../b", b"./a", b".tmp", b".tmp/a",
+    b"a\0b", b"a\xff",
+];
+
 #[test]
 fn a_folder_keeps_objects(rt: HostRuntime) -> Result<(), Fail> {
     let alloc = rt.alloc();
@@ -47,13 +65,7 @@ fn a_folder_keeps_objects(rt: HostRuntime) -> Result<(), Fail> {
     symlink(&rt, "../outside", "kept/store/.tmp")?;
     let mut first = store(&rt, "kept/store")?;
     assert!(rt; is_listed_as(alloc, &mut first, b"")?);
-    for (key, body) in [
-        (b"a/b".as_slice(), b"one".as_slice()),
-        (b"a0", b""),
-        (b"a.c", b"two"),
-        (b"a-", b"three"),
-        (b"a/.tmp", b"four"),
-    ] {
+    for (key, body) in OBJECTS {
         assert!(rt;
             first
                 .put(alloc, key, body)
@@ -65,10 +77,10 @@ fn a_folder_keeps_objects(rt: HostRuntime) -> Result<(), Fail> {
                 .is_ok_and(|put| put == Put::Present)
         );
         let got = first.get(alloc, key);
-        assert!(rt; got.is_ok_and(|got| got.is_some_and(|got| got.as_slice() == body)));
+        assert!(rt; got.is_ok_and(|got| got.is_some_and(|got| got.as_slice() == *body)));
     }
     assert!(rt; is_listed_as(alloc, &mut first, b"a- a.c a/.tmp a/b a0 ")?);
-    for key in [b"a.c".as_slice(), b"a.c", b"a/none", b"none/b", b"a0/b"] {
+    for key in ABSENT {
         assert!(rt; first.delete(key).is_ok());
         assert!(rt; first.get(alloc, key).is_ok_and(|got| got.is_none()));
     }
@@ -135,21 +147,7 @@ fn other_things_are_failures(rt: HostRuntime) -> Result<(), Fail> {
     fs::create_dir(&rt, "refused/store/inner")?;
     symlink(&rt, "../file", "refused/store/link")?;
     let mut folder = store(&rt, "refused/store")?;
-    for key in [
-        b"inner".as_slice(),
-        b"link",
-        b"",
-        b"/a",
-        b"a/",
-        b"a//b",
-        b"..",
-        b"a/../b",
-        b"./a",
-        b".tmp",
-        b".tmp/a",
-        b"a\0b",
-        b"a\xff",
-    ] {
+    for key in NO_FILES {
         assert!(rt; folder.get(alloc, key).is_err());
         assert!(rt; folder.put(alloc, key, b"").is_err());
         assert!(rt; folder.delete(key).is_err());
