@@ -31,8 +31,3 @@ pub use limits::{
 };
 pub use parse::one_reading;
 pub use script::{Body, Job, Schedule, Script, Setup};
-
-#[cfg(test)]
-mod limit_tests;
-#[cfg(test)]
-mod tests;

@@ -1,5 +1,5 @@
 //! Each kind of line, good and with each of its words spoiled, and each limit at it and past it.
-use super::*;
+use lr_script::{Schedule, Script, ScriptError, Setup};
 use std::alloc::Global;
 use std::test::Fail;
 

@@ -2,8 +2,8 @@
 ghost use Rattle.std.specs.Prelude.{◌≡◌, ◌≤◌};
 ghost use Rattle.lr_device.specs.Answers.{May};
 
-use crate::{Bytes, Device, DeviceAnswer, DeviceCall, DeviceReply, DeviceStep, Room, answered};
 use lr_convergent::{Piece, seal_chunk};
+use lr_device::{Bytes, Device, DeviceAnswer, DeviceCall, DeviceReply, DeviceStep, Room, answered};
 use lr_object::Object;
 use lr_spec::OutOfMemory;
 use std::alloc::Global;
