@@ -1,0 +1,4 @@
+mod Hits
+mod Few
+mod Own
+mod Legal

@@ -1,0 +1,9 @@
+pub mod Jobs
+pub mod Run
+pub mod Strings
+pub mod Opened
+pub mod Loaded
+pub mod Lists
+pub mod Answered
+pub mod Premises
+pub mod Histories
