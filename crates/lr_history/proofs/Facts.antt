@@ -1,14 +1,13 @@
 -- What steps of a walk say to a history: which of them commit, which pieces they used, and what they loaded.
-use Rattle.std.proofs.Common.{◌≡◌, ℕ, List, [], ◌∷◌, ◌++◌, cond, nat_eq, refl, ap, ◌∙◌}
+use Rattle.std.proofs.Common.{◌≡◌, ℕ, List, [], ◌∷◌, ◌++◌, Some, cond, nat_eq, refl, ap, ◌∙◌}
 use Rattle.std.specs.Prelude.{⊤}
 use Rattle.std.specs.List.{AllByRecursion, flat_map}
-use Rattle.lr_device.specs.declared.call.DeviceReply.{DeviceReply}
 use Rattle.lr_walk.specs.Walk.{Walks}
 use Rattle.lr_walk.specs.Steps.{Call, on_device, on_cache, on_node, on_depot, Reply, by_device, by_cache, by_node, by_depot, Step, step, Answers, Asks}
 use Rattle.lr_walk.specs.Device.{Piece}
 use Rattle.lr_walk.specs.Device as devices
 use Rattle.lr_history.specs.Jobs.{IsApart}
-use Rattle.lr_history.specs.Answered.{Outcome, committed_by, committed_in, unplanned_by, unplanned_in}
+use Rattle.lr_history.specs.Answered.{Outcome, committed_by, committed_in}
 
 -- a step that is asked for, and what comes after it
 pub asked : {E : Type 0} (call : Call) (after : Reply → Walks Step E) (steps : List Step) (ending : E) → Asks call after steps ending
@@ -16,18 +15,17 @@ pub asked : {E : Type 0} (call : Call) (after : Reply → Walks Step E) (steps :
 asked call after steps ending w = (w.0, w.2, w.3 ∙ ap (λ (s : Step). s ∷ w.2) w.4.0, w.4.1, w.5)
 
 -- the pieces that a step used of a device
-abbrev pub used_of : ℕ → Call → List Piece
-used_of device (on_device d (devices.commits plan used)) = cond (nat_eq d device) used []
-used_of device call = []
+abbrev pub used_of : ℕ → Call → Reply → List Piece
+used_of device (on_device d (devices.commits (Some call) used)) (by_device (devices.committed reply)) = cond (nat_eq d device) used []
+used_of device call reply = []
 
 abbrev pub used_in : ℕ → List Step → List Piece
-used_in device steps = flat_map (λ (s : Step). used_of device s.call) steps
+used_in device steps = flat_map (λ (s : Step). used_of device s.call s.reply) steps
 
 -- a step that commits nothing, of whichever device
 pub record IsQuiet (call : Call) (reply : Reply) : Type 0 where
   pub committed : (device : ℕ) → committed_by device call reply ≡ []
-  pub used : (device : ℕ) → used_of device call ≡ []
-  pub planned : (device : ℕ) → unplanned_by device call reply ≡ []
+  pub used : (device : ℕ) → used_of device call reply ≡ []
 
 abbrev pub Plain : List Step → Type 0
 Plain steps = AllByRecursion (λ (s : Step). IsQuiet s.call s.reply) steps
@@ -64,54 +62,36 @@ committed_none : (device : ℕ) (call : Call) (reply : Reply) → IsNoCommit cal
 committed_none device (on_device d (devices.commits plan used)) reply n = absurd n
 committed_none device call reply n = refl
 
-used_none : (device : ℕ) (call : Call) → IsNoCommit call → used_of device call ≡ []
-used_none device (on_device d (devices.commits plan used)) n = absurd n
-used_none device call n = refl
-
-unplanned_none : (device : ℕ) (call : Call) (reply : Reply) → IsNoCommit call → Answers call reply → unplanned_by device call reply ≡ []
-unplanned_none device (on_device d (devices.commits plan used)) reply n h = absurd n
-unplanned_none device (on_device d (devices.plans call)) (by_device (devices.committed reply)) n h = absurd h
-unplanned_none device (on_device d devices.drops) (by_device (devices.committed reply)) n h = absurd h
-unplanned_none device (on_device d devices.reaps) (by_device (devices.committed reply)) n h = absurd h
-unplanned_none device call reply n h = refl
+used_none : (device : ℕ) (call : Call) (reply : Reply) → IsNoCommit call → used_of device call reply ≡ []
+used_none device (on_device d (devices.commits plan used)) reply n = absurd n
+used_none device call reply n = refl
 
 -- each step of a device call's walk but its commit
-pub quiet : (call : Call) (reply : Reply) → IsNoCommit call → Answers call reply → IsQuiet call reply
-quiet call reply n h = record {
+pub quiet : (call : Call) (reply : Reply) → IsNoCommit call → IsQuiet call reply
+quiet call reply n = record {
   committed = λ device. committed_none device call reply n;
-  used = λ device. used_none device call n;
-  planned = λ device. unplanned_none device call reply n h;
+  used = λ device. used_none device call reply n;
 }
 
 apart_committed : (device : ℕ) (call : Call) (reply : Reply) → IsApart call → committed_by device call reply ≡ []
 apart_committed device (on_device d call) reply h = absurd h
 apart_committed device call reply h = refl
 
-apart_used : (device : ℕ) (call : Call) → IsApart call → used_of device call ≡ []
-apart_used device (on_device d call) h = absurd h
-apart_used device call h = refl
-
-apart_unplanned : (device : ℕ) (call : Call) (reply : Reply) → IsApart call → unplanned_by device call reply ≡ []
-apart_unplanned device (on_device d call) reply h = absurd h
-apart_unplanned device call reply h = refl
+apart_used : (device : ℕ) (call : Call) (reply : Reply) → IsApart call → used_of device call reply ≡ []
+apart_used device (on_device d call) reply h = absurd h
+apart_used device call reply h = refl
 
 -- each step of a job that calls no device
 pub quiet_apart : (call : Call) (reply : Reply) → IsApart call → IsQuiet call reply
 quiet_apart call reply h = record {
   committed = λ device. apart_committed device call reply h;
-  used = λ device. apart_used device call h;
-  planned = λ device. apart_unplanned device call reply h;
+  used = λ device. apart_used device call reply h;
 }
 
 pub plain_committed : (device : ℕ) (steps : List Step) → Plain steps → committed_in device steps ≡ []
 plain_committed device [] h = refl
 plain_committed device (s ∷ steps) h =
     ap (λ (l : List Outcome). l ++ committed_in device steps) (h.0.committed device) ∙ plain_committed device steps h.1
-
-pub plain_unplanned : (device : ℕ) (steps : List Step) → Plain steps → unplanned_in device steps ≡ []
-plain_unplanned device [] h = refl
-plain_unplanned device (s ∷ steps) h =
-    ap (λ (l : List DeviceReply). l ++ unplanned_in device steps) (h.0.planned device) ∙ plain_unplanned device steps h.1
 
 pub plain_used : (device : ℕ) (steps : List Step) → Plain steps → used_in device steps ≡ []
 plain_used device [] h = refl

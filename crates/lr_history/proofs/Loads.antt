@@ -45,7 +45,7 @@ gives place end before steps ending n f g =
   where
     by : (reply : Reply) (tail : List Step) → Answers (give_up_of place) reply → after_give_up end reply tail ending → Facts place before (step (give_up_of place) reply ∷ tail) ending
     by (by_cache caches.given) tail a r =
-        rw (r.0, r.1) (record { plain = (quiet (give_up_of place) (by_cache caches.given) tt a, tt); failed = append-nil before ∙ f; its_name = n })
+        rw (r.0, r.1) (record { plain = (quiet (give_up_of place) (by_cache caches.given) tt, tt); failed = append-nil before ∙ f; its_name = n })
     by reply tail a r = absurd r
 
 fills : (place : LoadPlace) (chunk : List ℕ) → sha256 chunk ≡ place.name.bytes → (steps : List Step) (ending : Ending)
@@ -56,9 +56,9 @@ fills place chunk n steps ending g =
   where
     by : (reply : Reply) (tail : List Step) → Answers (fill_of place chunk) reply → after_fill place chunk reply tail ending → Facts place [] (step (fill_of place chunk) reply ∷ tail) ending
     by (by_cache caches.filled) tail a r =
-        rw (r.0, r.1) (record { plain = (quiet (fill_of place chunk) (by_cache caches.filled) tt a, tt); failed = refl; its_name = n })
+        rw (r.0, r.1) (record { plain = (quiet (fill_of place chunk) (by_cache caches.filled) tt, tt); failed = refl; its_name = n })
     by (by_cache caches.memory) tail a r =
-        one_more place [] _ (step (fill_of place chunk) (by_cache caches.memory)) tail ending refl (quiet (fill_of place chunk) (by_cache caches.memory) tt a) refl
+        one_more place [] _ (step (fill_of place chunk) (by_cache caches.memory)) tail ending refl (quiet (fill_of place chunk) (by_cache caches.memory) tt) refl
         (gives place (with_chunk chunk) [] tail ending n refl r)
     by reply tail a r = absurd r
 
@@ -67,7 +67,7 @@ puts : (place : LoadPlace) (chunk : List ℕ) → sha256 chunk ≡ place.name.by
 puts place chunk n [] steps ending g = fills place chunk n steps ending g
 puts place chunk n (s ∷ stripes) steps ending g =
     let w = asked (put_of place s) (λ _. Puts place chunk stripes) steps ending g in
-    one_more place [] steps (step (put_of place s) w.0) w.1 ending w.2 (quiet (put_of place s) w.0 tt w.3) refl (puts place chunk n stripes w.1 ending w.4)
+    one_more place [] steps (step (put_of place s) w.0) w.1 ending w.2 (quiet (put_of place s) w.0 tt) refl (puts place chunk n stripes w.1 ending w.4)
 
 fetches : (place : LoadPlace) (steps : List Step) (ending : Ending) → Fetches place steps ending → Facts place [] steps ending
 fetches place steps ending g =
@@ -76,22 +76,22 @@ fetches place steps ending g =
   where
     by : (reply : Reply) (tail : List Step) → Answers (fetch_of place) reply → after_fetch place reply tail ending → Facts place [] (step (fetch_of place) reply ∷ tail) ending
     by (by_depot (depots.fetched name)) tail a (inl r) =
-        one_more place [] _ (step (fetch_of place) (by_depot (depots.fetched name))) tail ending refl (quiet (fetch_of place) (by_depot (depots.fetched name)) tt a) refl
+        one_more place [] _ (step (fetch_of place) (by_depot (depots.fetched name))) tail ending refl (quiet (fetch_of place) (by_depot (depots.fetched name)) tt) refl
         (puts place r.0 (r.3 ∙ r.2) r.1 tail ending r.5)
     by (by_depot (depots.fetched name)) tail a (inr r) =
-        one_more place [] _ (step (fetch_of place) (by_depot (depots.fetched name))) tail ending refl (quiet (fetch_of place) (by_depot (depots.fetched name)) tt a) refl
+        one_more place [] _ (step (fetch_of place) (by_depot (depots.fetched name))) tail ending refl (quiet (fetch_of place) (by_depot (depots.fetched name)) tt) refl
         (gives place with_memory [] tail ending tt refl r)
     by (by_depot (depots.fault key)) tail a r =
         let h = gives place (with_reply (depots.fault key)) (Fault key ∷ []) tail ending tt refl r in
-        record { plain = (quiet (fetch_of place) (by_depot (depots.fault key)) tt a, h.plain); failed = h.failed; its_name = h.its_name }
+        record { plain = (quiet (fetch_of place) (by_depot (depots.fault key)) tt, h.plain); failed = h.failed; its_name = h.its_name }
     by (by_depot (depots.spoiled key)) tail a r =
         let h = gives place (with_reply (depots.spoiled key)) (Spoiled key ∷ []) tail ending tt refl r in
-        record { plain = (quiet (fetch_of place) (by_depot (depots.spoiled key)) tt a, h.plain); failed = h.failed; its_name = h.its_name }
+        record { plain = (quiet (fetch_of place) (by_depot (depots.spoiled key)) tt, h.plain); failed = h.failed; its_name = h.its_name }
     by (by_depot depots.memory) tail a r =
-        one_more place [] _ (step (fetch_of place) (by_depot depots.memory)) tail ending refl (quiet (fetch_of place) (by_depot depots.memory) tt a) refl
+        one_more place [] _ (step (fetch_of place) (by_depot depots.memory)) tail ending refl (quiet (fetch_of place) (by_depot depots.memory) tt) refl
         (gives place with_memory [] tail ending tt refl r)
     by (by_depot reply) tail a r =
-        one_more place [] _ (step (fetch_of place) (by_depot reply)) tail ending refl (quiet (fetch_of place) (by_depot reply) tt a) refl
+        one_more place [] _ (step (fetch_of place) (by_depot reply)) tail ending refl (quiet (fetch_of place) (by_depot reply) tt) refl
         (gives place (with_reply reply) [] tail ending tt refl r)
     by reply tail a r = absurd a
 
@@ -104,7 +104,7 @@ gets : (place : LoadPlace) (left : ℕ) (held : List Stripe) (steps : List Step)
 gets place zero held steps ending g = rebuilds place held steps ending g
 gets place (suc left) held steps ending g =
     let w = asked (get_of place (4 - left)) (λ reply. let now = held_after place (4 - left) reply held in Choose (is_enough now) (Rebuilds place now) (Gets place left now)) steps ending g in
-    one_more place [] steps (step (get_of place (4 - left)) w.0) w.1 ending w.2 (quiet (get_of place (4 - left)) w.0 tt w.3) refl
+    one_more place [] steps (step (get_of place (4 - left)) w.0) w.1 ending w.2 (quiet (get_of place (4 - left)) w.0 tt) refl
     (by (held_after place (4 - left) w.0 held) w.1 (λ (now : List Stripe). gets place left now w.1 ending) (is_enough (held_after place (4 - left) w.0 held)) w.4)
   where
     by : (now : List Stripe) (tail : List Step) → ((now : List Stripe) → Gets place left now tail ending → Facts place [] tail ending) → (b : Bool) → Choose b (Rebuilds place now) (Gets place left now) tail ending → Facts place [] tail ending
@@ -118,11 +118,11 @@ load_facts place steps ending g =
   where
     by : (reply : Reply) (tail : List Step) → Answers (look_of place) reply → after_look place reply tail ending → Facts place [] (step (look_of place) reply ∷ tail) ending
     by (by_cache (caches.hit chunk)) tail a r =
-        rw (r.0, r.1) (record { plain = (quiet (look_of place) (by_cache (caches.hit chunk)) tt a, tt); failed = refl; its_name = a })
+        rw (r.0, r.1) (record { plain = (quiet (look_of place) (by_cache (caches.hit chunk)) tt, tt); failed = refl; its_name = a })
     by (by_cache caches.lead) tail a (inl r) =
-        one_more place [] _ (step (look_of place) (by_cache caches.lead)) tail ending refl (quiet (look_of place) (by_cache caches.lead) tt a) refl (gets place 5 [] tail ending r)
+        one_more place [] _ (step (look_of place) (by_cache caches.lead)) tail ending refl (quiet (look_of place) (by_cache caches.lead) tt) refl (gets place 5 [] tail ending r)
     by (by_cache caches.lead) tail a (inr r) =
-        one_more place [] _ (step (look_of place) (by_cache caches.lead)) tail ending refl (quiet (look_of place) (by_cache caches.lead) tt a) refl (gives place with_memory [] tail ending tt refl r)
+        one_more place [] _ (step (look_of place) (by_cache caches.lead)) tail ending refl (quiet (look_of place) (by_cache caches.lead) tt) refl (gives place with_memory [] tail ending tt refl r)
     by (by_cache caches.memory) tail a r =
-        rw (r.0, r.1) (record { plain = (quiet (look_of place) (by_cache caches.memory) tt a, tt); failed = refl; its_name = tt })
+        rw (r.0, r.1) (record { plain = (quiet (look_of place) (by_cache caches.memory) tt, tt); failed = refl; its_name = tt })
     by reply tail a r = absurd r

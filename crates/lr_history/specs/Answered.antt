@@ -2,7 +2,6 @@
 use Rattle.std.specs.Prelude.{◌≡◌, ℕ, List, [], ◌∷◌, ◌++◌, Bool, true, false, cond, ◌&&◌, nat_eq, Some, ⊤}
 use Rattle.std.specs.List.{flat_map}
 use Rattle.lr_device.specs.declared.call.DeviceCall.{DeviceCall}
-use Rattle.lr_device.specs.declared.call.DeviceReply.{DeviceReply}
 use Rattle.lr_device.specs.PlainDevice.{Answered}
 use Rattle.lr_walk.specs.declared.trail.Answer.{Answer}
 use Rattle.lr_walk.specs.declared.trail.Answer.TheVariants.{Done, Range, Fault, Spoiled, Memory, Cut, Unbegun}
@@ -49,15 +48,6 @@ committed_by device call reply = []
 
 abbrev pub committed_in : ℕ → List Step → List Outcome
 committed_in device steps = flat_map (λ (s : Step). committed_by device s.call s.reply) steps
-
--- an answer of a committed call to another step of this device: it would be missing in the history
-abbrev pub unplanned_by : ℕ → Call → Reply → List DeviceReply
-unplanned_by device (on_device d (devices.commits (Some call) used)) reply = []
-unplanned_by device (on_device d call) (by_device (devices.committed reply)) = cond (nat_eq d device) (reply ∷ []) []
-unplanned_by device call reply = []
-
-abbrev pub unplanned_in : ℕ → List Step → List DeviceReply
-unplanned_in device steps = flat_map (λ (s : Step). unplanned_by device s.call s.reply) steps
 
 -- what the depot told of a get that failed
 abbrev pub failed_by : Call → Reply → List Answer

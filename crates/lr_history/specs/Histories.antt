@@ -12,7 +12,8 @@ use Rattle.lr_device.specs.declared.step.DeviceNoted.{DeviceNoted}
 use Rattle.lr_device.specs.declared.step.DeviceNoted.TheVariants.{Commit}
 use Rattle.lr_device.specs.declared.step.DeviceAnswer.{DeviceAnswer}
 use Rattle.lr_device.specs.declared.step.DeviceAnswer.TheVariants.{Committed}
-use Rattle.lr_device.specs.Machine.{LogEntry, history, AgreesWith}
+use Rattle.lr_device.specs.Base.{Agrees}
+use Rattle.lr_device.specs.Machine.{LogEntry, history}
 use Rattle.lr_walk.specs.declared.trail.Did.{Did}
 use Rattle.lr_walk.specs.declared.trail.Answer.{Answer}
 use Rattle.lr_walk.specs.declared.trail.JobResult.{JobResult}
@@ -31,7 +32,7 @@ use Rattle.lr_history.specs.Answered.{outcome_of, answered_job, answered_jobs, c
 -- Each device's history is legal wherever a base of the device's length agrees with the pieces used.
 abbrev pub AreLegalWhereAgreed : Run → Type 0
 AreLegalWhereAgreed run =
-    (i : ℕ) (d : DeviceSeen) → slice_get run.devices i ≡ Some d → (base : List ℕ) → length base ≡ size_of d → AgreesWith base d.log → IsLegal base (history d.log)
+    (i : ℕ) (d : DeviceSeen) → slice_get run.devices i ≡ Some d → (base : List ℕ) → length base ≡ size_of d → Agrees base (used_pieces d.log) → IsLegal base (history d.log)
 
 -- Each piece that a committed call used is a chunk of the name and the key of its number.
 abbrev pub PiecesWereLoaded : Run → Type 0

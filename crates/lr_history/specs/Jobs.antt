@@ -56,8 +56,8 @@ OrCut walks job steps answer = walks job steps answer
 
 -- A trail over lists of steps, by any table of jobs: each job has a result, whose path reads as one of its walks; the entries that the
 -- paths name are those of each list, each once and in order; what a list has beyond is the end of what was out at a crash.
-pub record HasTrailOf {J : Type 0} (walks : J → Walks Step Answer) (lists : Lists) (jobs : List J) (results : List JobResult) : Type 0 where
-  pub walks : AllZip (λ (job : J) (r : JobResult). (steps : List Step) × Reads lists r.path.items steps × walks job steps r.answer) jobs results
+pub record HasTrailOf {J : Type 0} (walk : J → Walks Step Answer) (lists : Lists) (jobs : List J) (results : List JobResult) : Type 0 where
+  pub walks : AllZip (λ (job : J) (r : JobResult). (steps : List Step) × Reads lists r.path.items steps × walk job steps r.answer) jobs results
   pub counted : (o : ObjectId) → AreCounted (places o results)
   pub beyond : (o : ObjectId) → AreReaps (drop (length (places o results)) (lists o))
 

@@ -1,12 +1,16 @@
 -- The strings of a run, among which digests are to tell apart.
-use Rattle.std.specs.Prelude.{ℕ, List, ◌++◌, map, filter, Bool, ◌&&◌, ◌==◌, slice_index}
+use Rattle.std.specs.Prelude.{ℕ, List, [], ◌++◌, map, filter, Some, Bool, ◌&&◌, ◌==◌, slice_index}
 use Rattle.std.specs.List.{flat_map}
 use Rattle.std.specs.Arc.{arc_value}
 use Rattle.std.specs.FinMap as finmap
 use Rattle.lr_convergent.specs.declared.piece.KeptPiece.{KeptPiece}
 use Rattle.lr_seal.specs.Made.{sealed_chunks}
 use Rattle.lr_origin.specs.Objects.{Objects}
-use Rattle.lr_device.specs.Machine.{LogEntry, used_by}
+use Rattle.lr_device.specs.declared.step.DeviceNoted.{DeviceNoted}
+use Rattle.lr_device.specs.declared.step.DeviceNoted.TheVariants.{Commit}
+use Rattle.lr_device.specs.declared.step.DeviceAnswer.{DeviceAnswer}
+use Rattle.lr_device.specs.declared.step.DeviceAnswer.TheVariants.{Committed}
+use Rattle.lr_device.specs.Machine.{LogEntry}
 use Rattle.lr_history.specs.Run.{Creation, creation_of, DeviceSeen, Run}
 
 -- the sealed chunks of a creation
@@ -21,9 +25,14 @@ is_chunk_key key = slice_index key 0 == 114 && slice_index key 13 == 99
 abbrev pub chunk_bodies : Objects → List (List ℕ)
 chunk_bodies m = map (λ (e : List ℕ × List ℕ). e.1) (filter (λ (e : List ℕ × List ℕ). is_chunk_key e.0) (finmap.entries m))
 
+-- the pieces that an entry used, where it committed a call
+abbrev pub used_by : DeviceNoted → DeviceAnswer → List KeptPiece
+used_by (Commit (Some call) used) (Committed reply) = used.items
+used_by call reply = []
+
 -- the pieces that the committed calls of a log used
 abbrev pub used_pieces : List LogEntry → List KeptPiece
-used_pieces log = flat_map (λ (e : LogEntry). used_by e.call) log
+used_pieces log = flat_map (λ (e : LogEntry). used_by e.call e.reply) log
 
 -- their chunks
 abbrev pub used_chunks : DeviceSeen → List (List ℕ)

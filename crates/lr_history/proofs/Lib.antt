@@ -1,0 +1,13 @@
+mod Facts
+mod Loads
+mod Calls
+mod Walked
+mod Paths
+mod Owned
+mod Logs
+mod Bases
+mod Among
+mod Entries
+mod Whole
+mod Counts
+mod Seen
