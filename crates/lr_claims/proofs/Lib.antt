@@ -2,3 +2,4 @@ mod Hits
 mod Few
 mod Own
 mod Legal
+pub mod Public

@@ -11,3 +11,11 @@ mod Entries
 mod Whole
 mod Counts
 mod Seen
+mod Parts
+mod Loading
+mod Calling
+mod Telling
+mod Naming
+mod Demanded
+mod Fetches
+mod Uncrashed

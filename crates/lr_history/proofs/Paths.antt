@@ -39,7 +39,7 @@ ranged xs k (suc n) =
 pub counted_read : {X : Type 0} (xs : List X) (numbers : List ℕ) → AreCounted numbers → flat_map (read xs) numbers ≡ take (length numbers) xs
 counted_read xs numbers e = ap (λ (l : List ℕ). flat_map (read xs) l) e ∙ ranged xs 0 (length numbers)
 
-same_is : (a b : ObjectId) → is_same a b ≡ true → a ≡ b
+pub same_is : (a b : ObjectId) → is_same a b ≡ true → a ≡ b
 same_is (Device a) (Device b) e = ap Device (eqb-true a b e)
 same_is (Cache a) (Cache b) e = ap Cache (eqb-true a b e)
 same_is (Node a) (Node b) e = ap Node (eqb-true a b e)

@@ -7,3 +7,7 @@ pub mod Lists
 pub mod Answered
 pub mod Premises
 pub mod Histories
+pub mod Told
+pub mod OnDemand
+pub mod Claims
+pub mod Ready

@@ -4,6 +4,8 @@ ghost use Rattle.lr_history.specs.Jobs.{OwnTrailIsSeen};
 ghost use Rattle.lr_history.specs.Run.{Run};
 ghost use Rattle.lr_history.specs.Strings.{strings_of};
 ghost use Rattle.lr_history.specs.Premises.{IsRun, IsSetUp, AreDeviceLogs};
+ghost use Rattle.lr_history.specs.OnDemand.{LoadsAreOnDemand, FetchesAreDemanded};
+ghost use Rattle.lr_history.specs.Claims.{FetchesAreFew, FetchesAreFewUncrashed};
 ghost use Rattle.lr_history.specs.Histories.{AreLegalWhereAgreed, PiecesWereLoaded, ServesEachBase, HistoriesAreLegal, CommitsArePlanned, OwnListsFollowJobs, CallsAreAnsweredOnce, JobsAreAnswered, HaveOwnNumbers, CallsAreCounted};
 
 /// A trail over the jobs that call a device, damage, rotate and close is one over what a history sees of them.
@@ -45,4 +47,16 @@ pub fn device_serves_each_base()
 /// Each device has a base, its image's bytes, and its answered calls are a legal history of a plain device that holds them.
 pub fn histories_are_legal()
     ensures { (run : Run) → ServesEachBase run → IsSetUp run → HaveDistinctDigests (strings_of run) → HistoriesAreLegal run }
+{}
+
+/// Each fetch of an actor is in a load of a device call whose plan needs it, with a claim of that load's own.
+pub fn chunks_are_fetched_on_demand()
+    ensures loads { LoadsAreOnDemand }
+    ensures demanded { FetchesAreDemanded }
+{}
+
+/// The fetches of a name by a host's devices are at most one more than the claims on it given up in the host's cache.
+pub fn fetches_are_few()
+    ensures kept { FetchesAreFew }
+    ensures uncrashed { FetchesAreFewUncrashed }
 {}
