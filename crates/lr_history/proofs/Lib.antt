@@ -19,3 +19,5 @@ mod Naming
 mod Demanded
 mod Fetches
 mod Uncrashed
+mod Fits
+mod Out

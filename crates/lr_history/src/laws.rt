@@ -6,6 +6,7 @@ ghost use Rattle.lr_history.specs.Strings.{strings_of};
 ghost use Rattle.lr_history.specs.Premises.{IsRun, IsSetUp, AreDeviceLogs};
 ghost use Rattle.lr_history.specs.OnDemand.{LoadsAreOnDemand, FetchesAreDemanded};
 ghost use Rattle.lr_history.specs.Claims.{FetchesAreFew, FetchesAreFewUncrashed};
+ghost use Rattle.lr_history.specs.Ready.{WalksFit, NextFits, PathsTell, PlansAreTold, ClaimsAreTold, FitIsGranted, BusyWaitsForAnother, EndedHasNone};
 ghost use Rattle.lr_history.specs.Histories.{AreLegalWhereAgreed, PiecesWereLoaded, ServesEachBase, HistoriesAreLegal, CommitsArePlanned, OwnListsFollowJobs, CallsAreAnsweredOnce, JobsAreAnswered, HaveOwnNumbers, CallsAreCounted};
 
 /// A trail over the jobs that call a device, damage, rotate and close is one over what a history sees of them.
@@ -59,4 +60,21 @@ pub fn chunks_are_fetched_on_demand()
 pub fn fetches_are_few()
     ensures kept { FetchesAreFew }
     ensures uncrashed { FetchesAreFewUncrashed }
+{}
+
+/// Each call of a walk fits what the caller has out, which its own list alone tells, and to such a call a cache never answers
+/// that a claim is out or that none is.
+pub fn calls_fit()
+    ensures walks { WalksFit }
+    ensures next { NextFits }
+    ensures paths { PathsTell }
+    ensures told { ClaimsAreTold }
+    ensures planned { PlansAreTold }
+    ensures granted { FitIsGranted }
+{}
+
+/// Busy waits for another caller's claim, and an actor that ended, uncut, has neither claim nor plan out.
+pub fn ended_actors_hold_nothing()
+    ensures busy { BusyWaitsForAnother }
+    ensures ended { EndedHasNone }
 {}
