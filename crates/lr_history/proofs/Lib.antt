@@ -21,3 +21,4 @@ mod Fetches
 mod Uncrashed
 mod Fits
 mod Out
+pub mod Public

@@ -18,7 +18,7 @@ use Rattle.lr_walk.specs.Damage.{after_evict, Evicts, after_loss, Loses, Damages
 use Rattle.lr_walk.specs.Jobs.{Context, Job, after_depot, AsksDepot, WalksJob, IsWalk}
 use Rattle.lr_walk.specs.Jobs as table
 use Rattle.lr_walk.specs.Trails.{Lists, Reads, HasTrail}
-use Rattle.lr_history.specs.Jobs.{JobSeen, IsApart, IsAnother, StaysApart, WalksSeen, OrCut, HasTrailOf, HasTrailSeen, IsSeenAs, IsTrailSeen, job_seen, OwnTrailIsSeen}
+use Rattle.lr_history.specs.Jobs.{JobSeen, IsApart, IsAnother, StaysApart, WalksSeen, OrCut, HasTrailOf, HasTrailSeen, IsSeenAs, job_seen, OwnTrailIsSeen}
 use Rattle.lr_history.proofs.Facts.{asked}
 
 -- ---- any table

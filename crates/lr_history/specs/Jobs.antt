@@ -67,15 +67,9 @@ HasTrailSeen context lists jobs results = HasTrailOf (OrCut (WalksSeen context))
 
 -- ---- tables of jobs
 
--- Each walk of a job is one of what is seen of it.
+-- Each walk of a job is one of what is seen of it. Then a trail over the table is one over what is seen of its jobs (`trail_seen` in proofs/Public).
 abbrev pub IsSeenAs : {J : Type 0} → (J → Walks Step Answer) → Context → (J → JobSeen) → Type 0
 IsSeenAs {J} walks context seen = (job : J) (steps : List Step) (answer : Answer) → walks job steps answer → WalksSeen context (seen job) steps answer
-
--- So a trail over jobs of the table is one over what is seen of them.
-abbrev pub IsTrailSeen : {J : Type 0} → (J → Walks Step Answer) → Context → (J → JobSeen) → Type 0
-IsTrailSeen {J} walks context seen =
-    IsSeenAs walks context seen → (lists : Lists) (jobs : List J) (results : List JobResult)
-    → HasTrailOf (OrCut walks) lists jobs results → HasTrailSeen context lists (map seen jobs) results
 
 -- what is seen of a job of the table that calls devices, damages, rotates and closes
 abbrev pub job_seen : Job → JobSeen
