@@ -2,4 +2,5 @@ mod Hits
 mod Few
 mod Own
 mod Legal
+mod Sessions
 pub mod Public
