@@ -19,7 +19,9 @@ use Rattle.lr_device.specs.Answers.{Answers}
 use Rattle.lr_device.specs.Enters.{Enters, Notes}
 use Rattle.lr_device.specs.Base.{Agrees}
 use Rattle.lr_history.specs.Strings.{used_by, used_pieces}
-use Rattle.lr_history.specs.Histories.{HasPlan}
+use Rattle.lr_history.specs.Run.{Run}
+use Rattle.lr_history.specs.Premises.{AreDeviceLogs, size_of}
+use Rattle.lr_history.specs.Histories.{HasPlan, CommitsArePlanned}
 use Rattle.lr_history.proofs.Facts.{all_append, all_weaker}
 
 -- the entry has its planned call where it is committed, and keeps pieces only there
@@ -81,3 +83,6 @@ agrees_with base size log g h = agrees base log (all_kept size log g) h
 
 pub all_planned : (size : ℕ) (log : List LogEntry) → Grown Answers Enters size [] log → AllByRecursion (λ (e : LogEntry). HasPlan e.call e.reply) log
 all_planned size log g = all_weaker IsKept (λ (e : LogEntry). HasPlan e.call e.reply) (λ e k. k.planned) log (all_kept size log g)
+
+pub planned_commits : (run : Run) → AreDeviceLogs run → CommitsArePlanned run
+planned_commits run grown i d at = all_planned (size_of d) d.log (grown i d at)

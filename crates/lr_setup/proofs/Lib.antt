@@ -1,0 +1,4 @@
+mod Steps
+mod Opening
+mod Unspoiled
+mod Whole
