@@ -2,3 +2,4 @@ mod Steps
 mod Opening
 mod Unspoiled
 mod Whole
+mod Leases

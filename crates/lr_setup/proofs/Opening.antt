@@ -110,13 +110,14 @@ pub record Puts (s t : State) (session : ℕ) (image : List ℕ) (root number : 
   pub holds : Holds t session 0 (Creates image root number)
   pub keeps : KeepsManifests s t
   pub adds : (r : ℕ) (n : List ℕ) → Has t.known.view (kind.Chunk r n) → Has s.known.view (kind.Chunk r n) ⊎ ((r ≡ root) × Contains names n)
+  pub lease : t.desk.next_lease ≡ s.desk.next_lease
   pub runs : IsRun t rest
 
 puts_of : (session : ℕ) (image : List ℕ) (root number : ℕ) (rest : List LogEntry) (puts : List LogEntry) (names : List (List ℕ)) (s : State)
     → IsSafe s → Holds s session 0 (Creates image root number) → AllZip (IsKept session) puts names → IsRun s (puts ++ rest)
     → Puts s (run s puts) session image root number names rest
 puts_of session image root number rest [] [] s safe holds z is =
-    record { safe = safe; holds = holds; keeps = λ r i x e. e; adds = λ r n h. inl h; runs = is }
+    record { safe = safe; holds = holds; keeps = λ r i x e. e; adds = λ r n h. inl h; lease = refl; runs = is }
 puts_of session image root number rest [] (n ∷ names) s safe holds z is = absurd z
 puts_of session image root number rest (e ∷ puts) [] s safe holds z is = absurd z
 puts_of session image root number rest (e ∷ puts) (name ∷ names) s safe holds z is =
@@ -132,6 +133,7 @@ puts_of session image root number rest (e ∷ puts) (name ∷ names) s safe hold
       holds = more.holds;
       keeps = keeps_then s t (run t puts) put.keeps more.keeps;
       adds = λ r m h. by put r m (more.adds r m h);
+      lease = more.lease ∙ ap (λ (d : _). d.next_lease) put.desk;
       runs = more.runs;
     }
   where
@@ -155,6 +157,7 @@ pub record Created (s t : State) (line : ImageLine) (m : ManifestFields) (rest :
   pub adds : (r : ℕ) (n : List ℕ) → Has t.known.view (kind.Chunk r n) → Has s.known.view (kind.Chunk r n) ⊎ ((r ≡ line.root) × Contains (names_of line) n)
   pub there : finmap.get t.known.view (kind.Manifest line.root line.image) ≡ Some (manifest m)
   pub new : (q : ℕ) → Has s.known.view (kind.Manifest q line.image) → ⊥
+  pub lease : t.desk.next_lease ≡ s.desk.next_lease
   pub runs : IsRun t rest
 
 abbrev began_entry : ImageLine → ℕ → ℕ → LogEntry
@@ -164,7 +167,7 @@ abbrev made_entry : ImageLine → ℕ → Arc ManifestFields Global → LogEntry
 made_entry line session m = entry (noted.PutManifest session m) (told.Made line.root)
 
 -- the state after a creation
-abbrev created_state : State → ImageLine → ℕ → ℕ → List LogEntry → Arc ManifestFields Global → State
+abbrev pub created_state : State → ImageLine → ℕ → ℕ → List LogEntry → Arc ManifestFields Global → State
 created_state s line session number puts m =
     after_entry (run (after_entry s (began_entry line session number)) puts) (made_entry line session m)
 
@@ -189,6 +192,7 @@ created s safe line session number puts m rest z is =
       adds = λ r n h. puts_t.adds r n (make.adds r n h);
       there = make.there;
       new = λ q h. may.new (inl (kind.Manifest q line.image, h, refl));
+      lease = make.lease ∙ puts_t.lease;
       runs = runs.4;
     }
 
@@ -342,10 +346,10 @@ module _ (start : View) (opening : Objects) (mirrors : Mirrors opening start) wh
       let e : LogEntry = entry (noted.OpenImage d.image) (told.Opened d.lease w.0) in
       let runs : IsRun s (e ∷ w.1) = subst (IsRun s) w.2 is in
       let o = opened_step s d.image d.lease w.0 runs.0 runs.1 runs.3.noted runs.3.told runs.2 in
-      let may : MayOpen s d.image o.0 d.manifest = subst (λ (m : ManifestFields). MayOpen s d.image o.0 m) (sym w.3) o.1 in
+      let may : MayOpen s d.image o.1.0 d.manifest = subst (λ (m : ManifestFields). MayOpen s d.image o.1.0 m) (sym w.3) o.1.1 in
       let t : State = after_entry s e in
       let safe_t : IsSafe t = entry_safe s inv.safe e runs.0 runs.1 runs.2 runs.3 in
       let apart = later_apart lines before t w.1 d.root d.image safe_t runs.4 w.8 w.5.listed in (
-        opened s before (images_of lines) d o.0 inv may w.5 w.4 w.6 w.7 apart,
+        opened s before (images_of lines) d o.1.0 inv may w.5 w.4 w.6 w.7 apart,
         all_opened lines before t w.1 (record { safe = safe_t; chunks = inv.chunks; made = inv.made }) runs.4 w.8,
       )

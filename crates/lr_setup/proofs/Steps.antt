@@ -51,10 +51,10 @@ began_step s image session root number bytes call reply n t step = absurd (cc)
 
 opened_reply : (s : State) (image i : List ℕ) (lease : ℕ) (m : Arc ManifestFields Global) (reply : DepotReply)
     → noted.OpenImage image ≡ noted.OpenImage i → IsTold reply (told.Opened lease m) → DepotStep s 0 (OpenImage i) reply
-    → (r : ℕ) × MayOpen s image r (arc_value m)
+    → (lease ≡ s.desk.next_lease) × ((r : ℕ) × MayOpen s image r (arc_value m))
 opened_reply s image i lease m (Opened l p) n t step =
     let same : i ≡ image = cc in
-    (step.0, subst (λ (j : List ℕ). MayOpen s j step.0 (arc_value m)) same (subst (λ (f : ManifestFields). MayOpen s i step.0 f) (sym t.1) step.1))
+    (t.0 ∙ step.2, (step.0, subst (λ (j : List ℕ). MayOpen s j step.0 (arc_value m)) same (subst (λ (f : ManifestFields). MayOpen s i step.0 f) (sym t.1) step.1)))
 opened_reply s image i lease m (Fetched chunk) n t step = absurd t
 opened_reply s image i lease m (Copied chunk) n t step = absurd t
 opened_reply s image i lease m (Moving a b c p) n t step = absurd t
@@ -64,7 +64,7 @@ opened_reply s image i lease m reply n t step = absurd (cc)
 
 pub opened_step : (s : State) (image : List ℕ) (lease : ℕ) (m : Arc ManifestFields Global) (call : DepotCall) (reply : DepotReply)
     → IsNoted call (noted.OpenImage image) → IsTold reply (told.Opened lease m) → DepotStep s 0 call reply
-    → (r : ℕ) × MayOpen s image r (arc_value m)
+    → (lease ≡ s.desk.next_lease) × ((r : ℕ) × MayOpen s image r (arc_value m))
 opened_step s image lease m (OpenImage i) reply n t step = opened_reply s image i lease m reply n t step
 opened_step s image lease m (PutChunk k chunk) reply n t step = absurd n
 opened_step s image lease m (PutManifest k p) reply n t step = absurd n
@@ -154,6 +154,7 @@ pub record MakesManifest (s t : State) (image : List ℕ) (root : ℕ) (m : Mani
   pub keeps : KeepsManifests s t
   pub adds : AddsNoChunk s t
   pub there : map.get t.known.view (kind.Manifest root image) ≡ Some (manifest m)
+  pub lease : t.desk.next_lease ≡ s.desk.next_lease
 
 pub make_manifest : (s : State) → IsSafe s → (session : ℕ) (image : List ℕ) (root number : ℕ) (m : Arc ManifestFields Global) (r : ℕ) → Holds s session 0 (Creates image root number)
     → MakesManifest s (after_entry s (entry (noted.PutManifest session m) (told.Made r))) image root (arc_value m)
@@ -162,6 +163,7 @@ make_manifest s safe session image root number m r holds =
       keeps = λ q i x e. by q i x e (cases_key (kind.Manifest q i) (kind.Manifest root image));
       adds = other_chunk s.known (kind.Manifest root image) (manifest (arc_value m)) (λ q n e. cc);
       there = at_key s.known.view (kind.Manifest root image) (manifest (arc_value m));
+      lease = refl;
     })
   where
     by : (q : ℕ) (i : List ℕ) (x : Held) → map.get s.known.view (kind.Manifest q i) ≡ Some x

@@ -37,18 +37,19 @@ all_at P [] i x h e = absurd (cc)
 all_at P (y ∷ xs) zero x h e = subst P (same_Some y x e) h.0
 all_at P (y ∷ xs) (suc i) x h e = all_at P xs i x h.1 e
 
+-- the setup's part of the depot's log is a run
+pub setup_runs : (start : Start) (lines : List SetupLine) (run : Run) (w : IsWhole start lines run) → IsDepotRun (first_state start) w.setup.0
+setup_runs start lines run w = front_runs (first_state start) w.setup.0 w.setup.1 (subst (IsDepotRun (first_state start)) w.setup.2 (leads_run (first_state start) run.opening run.depot run.closing w.led.leads))
+
 set_up : (start : Start) (lines : List SetupLine) (run : Run) → IsWhole start lines run → IsSetUp run
 set_up start lines run w = record { chunks = w.chunks; opened = opened }
   where
     log : List LogEntry
     log = w.setup.0
 
-    runs : IsDepotRun (first_state start) log
-    runs = front_runs (first_state start) log w.setup.1 (subst (IsDepotRun (first_state start)) w.setup.2 (leads_run (first_state start) run.opening run.depot run.closing w.led.leads))
-
     all : AllByRecursion (λ (d : DeviceLine). IsOpened run.opening (images_of lines) d) (devices_of lines)
     all = all_opened start.view run.opening w.led.mirrors lines [] (first_state start) log
-        (record { safe = start_safe start.view start.number w.led.begun.may; chunks = λ r n h. inl h; made = tt }) runs w.setup.3
+        (record { safe = start_safe start.view start.number w.led.begun.may; chunks = λ r n h. inl h; made = tt }) (setup_runs start lines run w) w.setup.3
 
     opened : (i : ℕ) (d : DeviceSeen) → slice_get run.devices i ≡ Some d → IsOpened run.opening run.images d.line
     opened i d at =

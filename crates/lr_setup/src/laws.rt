@@ -10,6 +10,8 @@ ghost use Rattle.lr_depot.specs.Store.{IsRun};
 ghost use Rattle.lr_history.specs.Run.{DeviceLine, Run};
 ghost use Rattle.lr_seal.specs.Made.{HaveDistinctDigests};
 ghost use Rattle.lr_history.specs.Strings.{strings_of};
+ghost use Rattle.lr_history.specs.Lists.{context_of};
+ghost use Rattle.lr_history.specs.Claims.{HaveOwnLeases};
 ghost use Rattle.lr_history.specs.Premises.{IsOpened};
 ghost use Rattle.lr_setup.specs.Setup.{SetupLine, images_of, devices_of, IsSetup};
 ghost use Rattle.lr_setup.specs.Whole.{IsWhole, Serves};
@@ -18,6 +20,11 @@ ghost use Rattle.lr_setup.specs.Whole.{IsWhole, Serves};
 /// made the image, the manifest is that line's.
 pub fn setup_opens_devices()
     ensures { (start : Start) (opening : Objects) (lines : List SetupLine) (log : List LogEntry) → IsStart start → Mirrors opening start.view → IsRun (first_state start) log → IsSetup (first_state start) [] lines log → AllByRecursion (λ (d : DeviceLine). IsOpened opening (images_of lines) d) (devices_of lines) }
+{}
+
+/// No two devices have one lease.
+pub fn devices_have_own_leases()
+    ensures { (start : Start) (lines : List SetupLine) (run : Run) → IsWhole start lines run → HaveOwnLeases (context_of run) }
 {}
 
 /// Each device's answered calls form one legal history of a plain device on its image's bytes, each call once and in the order of

@@ -3,4 +3,4 @@
 
 mod laws;
 
-pub use laws::{images_are_served, setup_opens_devices};
+pub use laws::{devices_have_own_leases, images_are_served, setup_opens_devices};
