@@ -21,4 +21,5 @@ mod Fetches
 mod Uncrashed
 mod Fits
 mod Out
+mod Example
 pub mod Public

@@ -11,3 +11,4 @@ pub mod Told
 pub mod OnDemand
 pub mod Claims
 pub mod Ready
+pub mod Example

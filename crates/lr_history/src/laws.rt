@@ -1,6 +1,7 @@
 //! Laws, as contracts of functions that do nothing: what follows for a run.
 ghost use Rattle.lr_seal.specs.Made.{HaveDistinctDigests};
 ghost use Rattle.lr_history.specs.Jobs.{OwnTrailIsSeen};
+ghost use Rattle.lr_history.specs.Example.{Worked};
 ghost use Rattle.lr_history.specs.Run.{Run};
 ghost use Rattle.lr_history.specs.Strings.{strings_of};
 ghost use Rattle.lr_history.specs.Premises.{IsRun, IsSetUp, AreDeviceLogs};
@@ -8,6 +9,8 @@ ghost use Rattle.lr_history.specs.OnDemand.{LoadsAreOnDemand, FetchesAreDemanded
 ghost use Rattle.lr_history.specs.Claims.{FetchesAreFew, FetchesAreFewUncrashed};
 ghost use Rattle.lr_history.specs.Ready.{WalksFit, NextFits, PathsTell, PlansAreTold, ClaimsAreTold, FitIsGranted, BusyWaitsForAnother, EndedHasNone};
 ghost use Rattle.lr_history.specs.Histories.{AreLegalWhereAgreed, PiecesWereLoaded, ServesEachBase, HistoriesAreLegal, CommitsArePlanned, OwnListsFollowJobs, CallsAreAnsweredOnce, JobsAreAnswered, HaveOwnNumbers, CallsAreCounted};
+
+use std::alloc::Global;
 
 /// A trail over the jobs that call a device, damage, rotate and close is one over what a history sees of them.
 pub fn own_trails_are_seen()
@@ -77,4 +80,10 @@ pub fn calls_fit()
 pub fn ended_actors_hold_nothing()
     ensures busy { BusyWaitsForAnother }
     ensures ended { EndedHasNone }
+{}
+
+/// There is a run that meets all premises: a device on an empty image that an image line made, and an actor whose read of it is
+/// past its end. The allocator is that of the lists in its logs.
+pub fn premises_can_hold(_alloc: Global)
+    ensures { Worked }
 {}
