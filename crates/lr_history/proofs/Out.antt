@@ -15,8 +15,13 @@ use Rattle.lr_device.specs.declared.call.DeviceCall.{DeviceCall}
 use Rattle.lr_device.specs.declared.step.DeviceNoted.{DeviceNoted}
 use Rattle.lr_device.specs.declared.step.DeviceNoted.TheVariants.{Plan, Commit, Drop, Reap as DeviceReap}
 use Rattle.lr_device.specs.declared.step.DeviceAnswer.{DeviceAnswer}
-use Rattle.lr_device.specs.declared.step.DeviceAnswer.TheVariants.{Planned, Committed, Dropped, Reaped}
-use Rattle.lr_device.specs.Machine.{LogEntry as DeviceEntry}
+use Rattle.lr_device.specs.declared.step.DeviceAnswer.TheVariants.{Planned, Committed, Dropped, Reaped, NoPlan, OutOfMemory}
+use Rattle.lr_device.specs.declared.step.DeviceStep.TheVariants as asks
+use Rattle.lr_device.specs.Machine.{LogEntry as DeviceEntry, OpenPlan, plan_of, run as made_by}
+use Rattle.lr_device.specs.Answers.{Answers}
+use Rattle.lr_device.specs.Enters.{Enters}
+use Rattle.lr_device.proofs.OnesOwn.{planned_is}
+use Rattle.lr_object.specs.Grown.{Grown}
 use Rattle.lr_device.specs.Plans.{planned_after, planned_then}
 use Rattle.lr_cache.specs.declared.call.Claim.{Claim}
 use Rattle.lr_cache.specs.declared.call.CacheCall.{CacheCall}
@@ -39,7 +44,7 @@ use Rattle.lr_walk.specs.Jobs.{Context}
 use Rattle.lr_walk.specs.Trails.{Lists, is_same, IsAt, Reads, is_entry_of, IsReap}
 use Rattle.lr_history.specs.Jobs.{JobSeen, WalksSeen, OrCut, HasTrailSeen}
 use Rattle.lr_history.specs.Lists.{device_entry, cache_entry, entries_in}
-use Rattle.lr_history.specs.Ready.{claim_by, FitsClaim, plan_by, FitsPlan, out_after, PathsTell, PlansAreTold, ClaimsAreTold, own_in, FitIsGranted, BusyWaitsForAnother, IsWhole, EndedHasNone}
+use Rattle.lr_history.specs.Ready.{claim_by, FitsClaim, plan_by, FitsPlan, out_after, PathsTell, PlansAreTold, ClaimsAreTold, own_in, own_of, FitIsPlanned, FitIsGranted, BusyWaitsForAnother, IsWhole, EndedHasNone}
 use Rattle.lr_history.proofs.Paths.{same_is, list_follows}
 use Rattle.lr_history.proofs.Owned.{Follows}
 use Rattle.lr_history.proofs.Fits.{fit_end, walks_fit}
@@ -281,3 +286,39 @@ own_plan device caller (e ∷ log) plan = by (own_plan device caller log) (e.cal
 
 pub plans_told : PlansAreTold
 plans_told device caller log = own_plan device caller log None
+
+-- what the machine has of a caller's plan is what its own list tells
+machine_tells : (device size caller : ℕ) (log : List DeviceEntry) → Grown Answers Enters size [] log
+    → option_map (λ (p : OpenPlan). p.call) (plan_of caller (made_by size log)) ≡ out_after (plan_by device) None (own_of device caller log)
+machine_tells device size caller log g = planned_is size log g caller ∙ plans_told device caller log
+
+has_plan : {P : Type 0} (o : Option OpenPlan) → option_map (λ (p : OpenPlan). p.call) o ≡ None → IsSome o → P
+has_plan None e s = absurd (cc)
+has_plan (Some p) e s = absurd (cc)
+
+has_none : {P : Type 0} (o : Option OpenPlan) (call : DeviceCall) → option_map (λ (p : OpenPlan). p.call) o ≡ Some call → IsNone o → P
+has_none None call e n = absurd (cc)
+has_none (Some p) call e n = absurd (cc)
+
+none_planned : (o : Option OpenPlan) → IsNone o → option_map (λ (p : OpenPlan). p.call) o ≡ None
+none_planned None n = refl
+none_planned (Some p) n = absurd (cc)
+
+pub fit_planned : FitIsPlanned
+fit_planned = record {
+  plan = λ device size caller log call g f a. has_plan (plan_of caller (made_by size log)) (machine_tells device size caller log g ∙ f (eq-eqb device device refl)) a;
+  commit = λ device size caller log call used pieces room g f a.
+      let k = f (eq-eqb device device refl) in
+      has_none (plan_of caller (made_by size log)) k.0 (machine_tells device size caller log g ∙ k.1) a;
+  drop = λ device size caller log g f answer a.
+      let k = f (eq-eqb device device refl) in
+      dropped size caller log k.0 (machine_tells device size caller log g ∙ k.1) answer a;
+  reap = λ device size caller log g a. sym (machine_tells device size caller log g) ∙ none_planned (plan_of caller (made_by size log)) a;
+}
+  where
+    dropped : (size caller : ℕ) (log : List DeviceEntry) (call : DeviceCall) → option_map (λ (p : OpenPlan). p.call) (plan_of caller (made_by size log)) ≡ Some call
+        → (answer : DeviceAnswer) → Answers size log caller asks.Drop answer → answer ≡ Dropped
+    dropped size caller log call e Dropped a = refl
+    dropped size caller log call e NoPlan a = has_none (plan_of caller (made_by size log)) call e a
+    dropped size caller log call e OutOfMemory a = has_none (plan_of caller (made_by size log)) call e a
+    dropped size caller log call e answer a = absurd a

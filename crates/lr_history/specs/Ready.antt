@@ -11,6 +11,12 @@ use Rattle.lr_object.specs.declared.id.ObjectId.TheVariants.{Device, Cache}
 use Rattle.lr_device.specs.declared.call.DeviceCall.{DeviceCall}
 use Rattle.lr_device.specs.Machine.{LogEntry as DeviceEntry}
 use Rattle.lr_device.specs.Plans.{planned}
+use Rattle.lr_device.specs.declared.step.DeviceStep.TheVariants as asks
+use Rattle.lr_device.specs.declared.step.DeviceAnswer.{DeviceAnswer}
+use Rattle.lr_device.specs.declared.step.DeviceAnswer.TheVariants as answers
+use Rattle.lr_device.specs.Answers.{Answers}
+use Rattle.lr_device.specs.Enters.{Enters}
+use Rattle.lr_object.specs.Grown.{Grown}
 use Rattle.lr_cache.specs.declared.call.CacheCall.TheVariants.{Look, Fill, GiveUp, Reap}
 use Rattle.lr_cache.specs.declared.call.CacheReply.{CacheReply}
 use Rattle.lr_cache.specs.declared.call.CacheReply.TheVariants as cached
@@ -91,6 +97,25 @@ pub record PathsTell : Type 0 where
 abbrev pub PlansAreTold : Type 0
 PlansAreTold =
     (device caller : ℕ) (log : List DeviceEntry) → planned caller log ≡ out_after (plan_by device) None (map (device_entry device) (own_entries caller log))
+
+-- ---- the device's machine
+
+-- a caller's own list of a device
+abbrev pub own_of : ℕ → ℕ → List DeviceEntry → List Step
+own_of device caller log = map (device_entry device) (own_entries caller log)
+
+-- To a call that fits what the caller's own list tells, whatever the others did, the device never answers that a plan is out or that
+-- none is, and Drop finds its memory.
+pub record FitIsPlanned : Type 0 where
+  pub plan : (device size caller : ℕ) (log : List DeviceEntry) (call : Arc DeviceCall Global) → Grown Answers Enters size [] log
+      → FitsPlan device (out_after (plan_by device) None (own_of device caller log)) (on_device device (devices.plans (arc_value call))) → Answers size log caller (asks.Plan call) answers.HasPlan → ⊥
+  pub commit : (device size caller : ℕ) (log : List DeviceEntry) (call : DeviceCall) (used : List devices.Piece) (pieces : _) (room : _) → Grown Answers Enters size [] log
+      → FitsPlan device (out_after (plan_by device) None (own_of device caller log)) (on_device device (devices.commits (Some call) used)) → Answers size log caller (asks.Commit pieces room) answers.NoPlan → ⊥
+  pub drop : (device size caller : ℕ) (log : List DeviceEntry) → Grown Answers Enters size [] log
+      → FitsPlan device (out_after (plan_by device) None (own_of device caller log)) (on_device device devices.drops) → (answer : DeviceAnswer) → Answers size log caller asks.Drop answer → answer ≡ answers.Dropped
+  -- a Reap that isn't logged leaves nothing out
+  pub reap : (device size caller : ℕ) (log : List DeviceEntry) → Grown Answers Enters size [] log → Answers size log caller asks.Reap answers.Nothing
+      → out_after (plan_by device) None (own_of device caller log) ≡ None
 
 -- ---- the cache's machine
 

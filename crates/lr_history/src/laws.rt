@@ -7,7 +7,7 @@ ghost use Rattle.lr_history.specs.Strings.{strings_of};
 ghost use Rattle.lr_history.specs.Premises.{IsRun, IsSetUp, AreDeviceLogs};
 ghost use Rattle.lr_history.specs.OnDemand.{LoadsAreOnDemand, FetchesAreDemanded};
 ghost use Rattle.lr_history.specs.Claims.{FetchesAreFew, FetchesAreFewUncrashed};
-ghost use Rattle.lr_history.specs.Ready.{WalksFit, NextFits, PathsTell, PlansAreTold, ClaimsAreTold, FitIsGranted, BusyWaitsForAnother, EndedHasNone};
+ghost use Rattle.lr_history.specs.Ready.{WalksFit, NextFits, PathsTell, PlansAreTold, ClaimsAreTold, FitIsPlanned, FitIsGranted, BusyWaitsForAnother, EndedHasNone};
 ghost use Rattle.lr_history.specs.Histories.{AreLegalWhereAgreed, PiecesWereLoaded, ServesEachBase, HistoriesAreLegal, CommitsArePlanned, OwnListsFollowJobs, CallsAreAnsweredOnce, JobsAreAnswered, HaveOwnNumbers, CallsAreCounted};
 
 use std::alloc::Global;
@@ -66,7 +66,7 @@ pub fn fetches_are_few()
 {}
 
 /// Each call of a walk fits what the caller has out, which its own list alone tells, and to such a call a cache never answers
-/// that a claim is out or that none is.
+/// that a claim is out or that none is, nor a device that a plan is out or that none is.
 pub fn calls_fit()
     ensures walks { WalksFit }
     ensures next { NextFits }
@@ -74,6 +74,7 @@ pub fn calls_fit()
     ensures told { ClaimsAreTold }
     ensures planned { PlansAreTold }
     ensures granted { FitIsGranted }
+    ensures made { FitIsPlanned }
 {}
 
 /// Busy waits for another caller's claim, and an actor that ended, uncut, has neither claim nor plan out.
