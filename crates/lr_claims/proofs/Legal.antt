@@ -1,5 +1,5 @@
 -- What calls made of an empty log is legal.
-use Rattle.std.proofs.Common.{◌≡◌, ℕ, List, [], ◌∷◌, ◌++◌, true, Some, fold, refl, sym, ap, subst, ◌∙◌}
+use Rattle.std.proofs.Common.{◌≡◌, ℕ, List, [], ◌∷◌, ◌++◌, true, fold, refl, sym, ap, subst, ◌∙◌}
 use Rattle.lr_object.specs.Grown.{Grown, same, more}
 use Rattle.lr_cache.specs.declared.call.CacheCall.{CacheCall}
 use Rattle.lr_cache.specs.declared.call.CacheReply.{CacheReply}

@@ -12,10 +12,9 @@ use Rattle.lr_origin.specs.declared.key.KeyKind.{KeyKind}
 use Rattle.lr_origin.specs.declared.key.KeyKind.TheVariants as kind
 use Rattle.lr_manifest.specs.declared.name.Name.{Name}
 use Rattle.lr_roots.specs.View.{Held}
-use Rattle.lr_rules.specs.State.{Job, Creates, Moves, Session, Desk, State, Holds, target}
+use Rattle.lr_rules.specs.State.{Job, Creates, Moves, Session, State, Holds, target}
 use Rattle.lr_rules.specs.Safe.{IsSafe}
-use Rattle.lr_rules.specs.Start.{started}
-use Rattle.lr_rules.proofs.Keys.{cases_n, at_n, other_n, gone_n, gone_other_n}
+use Rattle.lr_rules.proofs.Keys.{at_n, other_n, gone_n, gone_other_n}
 use Rattle.lr_rules.proofs.Outcomes.{not_both, is_some}
 use Rattle.lr_rules.proofs.Start.{start_safe}
 use Rattle.lr_depot.specs.declared.call.DepotNoted.{DepotNoted}
@@ -34,7 +33,7 @@ use Rattle.lr_depot.proofs.Drawing.{AreDrawnMakers, IsMaking, making_of}
 use Rattle.lr_depot.proofs.Found.{found_sessions, found_stays}
 use Rattle.lr_depot.proofs.Moved.{others_in, entry_safe}
 use Rattle.lr_depot.proofs.Numbers.{get_retained}
-use Rattle.lr_claims.specs.Sessions.{Standing, no_session, held, unsure, doubted, standing_after, standing_then, standing, IsStanding, SessionsAreOnesOwn, Has, NoSessionIsOnesOwn}
+use Rattle.lr_claims.specs.Sessions.{Standing, no_session, held, unsure, doubted, standing_after, standing_then, IsStanding, SessionsAreOnesOwn, Has, NoSessionIsOnesOwn}
 
 abbrev Sessions : Type 0
 Sessions = FinMap nat_cmp Session

@@ -17,7 +17,7 @@ use Rattle.lr_history.specs.Told.{fetched_by, fetched_in, led_by, led_in, Need, 
 use Rattle.lr_history.specs.OnDemand.{LoadMade, IsLoadOf, fetch_of, lead_of}
 use Rattle.lr_history.proofs.Facts.{asked}
 use Rattle.lr_history.proofs.Calls.{commit_step}
-use Rattle.lr_history.proofs.Parts.{Part, part_none, part_more, part_weaker, split, IsStill, Still, still_none, still_first}
+use Rattle.lr_history.proofs.Parts.{Part, part_none, part_more, part_weaker, split, Still, still_none, still_first}
 use Rattle.lr_history.proofs.Loading.{Loading, load_part}
 
 abbrev pub index_of : LoadMade → ℕ

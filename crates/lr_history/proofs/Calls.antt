@@ -1,6 +1,6 @@
 -- What the walk of a device call says: it commits its call at its last step, or nothing; the pieces that the commit used
 -- were loaded; what its fetch failed with is its answer.
-use Rattle.std.proofs.Common.{◌≡◌, inl, inr, ℕ, List, [], ◌∷◌, ◌++◌, Some, slice_get, false, refl, sym, ap, subst, ◌∙◌, append_assoc, append-nil}
+use Rattle.std.proofs.Common.{◌≡◌, inl, inr, ℕ, List, [], ◌∷◌, ◌++◌, Some, false, refl, sym, ap, subst, ◌∙◌, append_assoc, append-nil}
 use Rattle.std.specs.Prelude.{◌⊎◌}
 use Rattle.std.specs.List.{AllByRecursion, Contains}
 use Rattle.std.proofs.lemmas.List.Concat.{flat_map-append}
@@ -11,7 +11,7 @@ use Rattle.lr_device.specs.declared.call.DeviceCall.{DeviceCall}
 use Rattle.lr_device.specs.declared.call.DeviceReply.{DeviceReply}
 use Rattle.lr_walk.specs.declared.trail.Answer.{Answer}
 use Rattle.lr_walk.specs.declared.trail.Answer.TheVariants.{Fault, Spoiled, Memory}
-use Rattle.lr_walk.specs.Steps.{Call, on_device, Reply, by_device, Step, step, Answers}
+use Rattle.lr_walk.specs.Steps.{on_device, Reply, by_device, Step, step, Answers}
 use Rattle.lr_walk.specs.Device.{Piece}
 use Rattle.lr_walk.specs.Device as devices
 use Rattle.lr_walk.specs.Depot as depots

@@ -1,5 +1,5 @@
 -- Each load was demanded by the plan of its call.
-use Rattle.std.proofs.Common.{◌≡◌, ℕ, suc, List, [], ◌∷◌, ◌++◌, length, map, Bool, true, false, cond, Option, Some, None, slice_get, option_map, refl, sym, ap, subst, ◌∙◌, inl, inr, arith, append_assoc, append-nil, eq-eqb}
+use Rattle.std.proofs.Common.{◌≡◌, ℕ, List, [], ◌∷◌, ◌++◌, map, Bool, true, false, cond, Option, Some, None, slice_get, option_map, refl, sym, ap, subst, ◌∙◌, inl, inr, append_assoc, append-nil, eq-eqb}
 use Rattle.std.specs.Prelude.{◌⊎◌, ◌==◌, ⊤}
 use Rattle.std.specs.Arc.{arc_value}
 use Rattle.std.specs.List.{AllByRecursion, AllZip, Contains, flat_map}

@@ -1,18 +1,14 @@
 -- What the entries of a device's log keep, since calls made them.
 use Rattle.std.proofs.Common.{◌≡◌, ℕ, List, [], ◌∷◌, ◌++◌, Some, None, option_map, Option, refl, sym, ap, subst, ◌∙◌}
-use Rattle.std.specs.Prelude.{⊤}
-use Rattle.std.specs.Arc.{arc_value}
-use Rattle.std.specs.List.{AllByRecursion, flat_map}
+use Rattle.std.specs.List.{AllByRecursion}
 use Rattle.lr_convergent.specs.declared.piece.KeptPiece.{KeptPiece}
 use Rattle.lr_object.specs.Grown.{Grown, same, more}
-use Rattle.lr_device.specs.declared.call.DeviceCall.{DeviceCall}
 use Rattle.lr_device.specs.declared.step.DeviceStep.{DeviceStep}
 use Rattle.lr_device.specs.declared.step.DeviceStep.TheVariants as asks
 use Rattle.lr_device.specs.declared.step.DeviceNoted.{DeviceNoted}
 use Rattle.lr_device.specs.declared.step.DeviceNoted.TheVariants.{Plan, Commit, Drop, Reap}
 use Rattle.lr_device.specs.declared.step.DeviceAnswer.{DeviceAnswer}
 use Rattle.lr_device.specs.declared.step.DeviceAnswer.TheVariants.{Committed}
-use Rattle.lr_device.specs.PlainDevice.{IsLegal}
 use Rattle.lr_device.specs.Machine.{LogEntry, OpenPlan, plan_of, run as made_by, history, AgreesWith}
 use Rattle.lr_device.specs.Machine as machine
 use Rattle.lr_device.specs.Answers.{Answers}
@@ -62,11 +58,13 @@ as_used size log caller step answer (Commit plan used) a n = absurd n
 pub all_kept : (size : ℕ) (log : List LogEntry) → Grown Answers Enters size [] log → AllByRecursion IsKept log
 all_kept size log same = tt
 all_kept size log (more {log = before} g step answer e a n) =
-    all_append IsKept before (e ∷ []) (all_kept size before g)
-    (record {
-      planned = subst (HasPlan e.call) (sym n.told) (planned size before e.caller step answer e.call a n.noted);
-      used = as_used size before e.caller step answer e.call a n.noted ∙ ap (used_by e.call) (sym n.told);
-    }, tt)
+    all_append IsKept before (e ∷ []) (all_kept size before g) (
+      record {
+        planned = subst (HasPlan e.call) (sym n.told) (planned size before e.caller step answer e.call a n.noted);
+        used = as_used size before e.caller step answer e.call a n.noted ∙ ap (used_by e.call) (sym n.told);
+      },
+      tt,
+    )
 
 front : (base : List ℕ) (xs ys : List KeptPiece) → Agrees base (xs ++ ys) → Agrees base xs × Agrees base ys
 front base [] ys h = (tt, h)

@@ -1,14 +1,14 @@
 -- A run that meets all premises.
-use Rattle.std.proofs.Common.{◌≡◌, ◌≢◌, ◌≤◌, ◌<◌, ℕ, zero, suc, List, [], ◌∷◌, ◌++◌, length, map, drop, replicate, Some, None, slice_get, Bool, true, false, nat_eq, refl, sym, ap, subst, ◌∙◌, inl, arith}
+use Rattle.std.proofs.Common.{◌≡◌, ◌<◌, ℕ, zero, suc, List, [], ◌∷◌, length, map, drop, replicate, Some, None, slice_get, true, false, nat_eq, refl, sym, ap, subst, ◌∙◌, inl, arith}
 use Rattle.std.specs.Prelude.{Vec, find}
 use Rattle.std.specs.declared.sync.Arc.{Arc}
 use Rattle.std.specs.declared.alloc.Global.{Global}
 use denote.RawPtr.{null_ptr}
-use Rattle.std.specs.List.{AllByRecursion, Contains}
+use Rattle.std.specs.List.{Contains}
 use Rattle.std.specs.Str.{bytes_eq}
 use Rattle.std.proofs.lemmas.Slice.Eq.{bytes_eq-Decides}
 use Rattle.std.specs.FinMap as finmap
-use Rattle.std.specs.FinMap.{get-empty, get-from_sorted, entries-from_sorted}
+use Rattle.std.specs.FinMap.{get-from_sorted, entries-from_sorted}
 use Rattle.lr_layout.specs.Chunks.{chunks_of}
 use Rattle.lr_aes.specs.Counter.{with_stream}
 use Rattle.lr_manifest.specs.Manifest.{ManifestFields, IsManifest}
@@ -39,11 +39,11 @@ use Rattle.lr_walk.specs.Steps.{on_device, by_device, Step, step}
 use Rattle.lr_walk.specs.Device as devices
 use Rattle.lr_walk.specs.Trails.{places, AreCounted, AreReaps}
 use Rattle.lr_history.specs.Jobs.{calls, HasTrailSeen}
-use Rattle.lr_history.specs.Run.{ImageLine, DeviceLine, DeviceSeen, CacheSeen, ActorSeen, Run}
+use Rattle.lr_history.specs.Run.{ImageLine, DeviceLine, DeviceSeen, ActorSeen, Run}
 use Rattle.lr_history.specs.Strings.{strings_of}
 use Rattle.lr_history.specs.Opened.{is_line_of}
 use Rattle.lr_history.specs.Lists.{own, place_of, context_of}
-use Rattle.lr_history.specs.Premises.{IsOpened, IsRun, IsSetUp, AreCallers, AreDeviceLogs, AreCacheLogs, size_of}
+use Rattle.lr_history.specs.Premises.{IsOpened, IsRun, AreCallers, AreDeviceLogs, AreCacheLogs, size_of}
 use Rattle.lr_history.specs.Claims.{HaveOwnLeases, AreApart}
 use Rattle.lr_history.specs.Example.{Worked}
 use Rattle.lr_history.proofs.Among.{first}
@@ -193,14 +193,17 @@ module _ (heap : Global) (salt tenant : List ℕ) where
 
   committed : Grown Answers Enters 0 [] (plan_entry ∷ commit_entry ∷ [])
   committed =
-      more planned (asks.Commit (no_pieces heap) (record { pages = 0; told = 0; kept = 0 })) (Committed reply.Range) commit_entry
-      (record { caller = 1; call = past_the_end; pages = 0 }, refl, record {
-        whole = rw nothing_needed refl;
-        enough = refl;
-        ranged = refl;
-        sized = refl;
-        plain = λ base long agrees used. rw long refl;
-      })
+      more planned (asks.Commit (no_pieces heap) (record { pages = 0; told = 0; kept = 0 })) (Committed reply.Range) commit_entry (
+        record { caller = 1; call = past_the_end; pages = 0 },
+        refl,
+        record {
+          whole = rw nothing_needed refl;
+          enough = refl;
+          ranged = refl;
+          sized = refl;
+          plain = λ base long agrees used. rw long refl;
+        },
+      )
       (record { logged = refl; noted = (refl, rw nothing_needed refl); told = refl })
 
   logs : AreDeviceLogs run
@@ -242,8 +245,11 @@ module _ (heap : Global) (salt tenant : List ℕ) where
   trail : HasTrailSeen (context_of run) (own run 1) actor.jobs actor.results
   trail = record {
     walks = (
-      (plan_step ∷ made_step ∷ [], ((refl, refl), ((refl, refl), tt)),
-        (place_of device, refl, inl (by_device (devices.planned [] 0), plan_step, made_step ∷ [], refl, (refl, tt), inl ([], reply.Range, refl, tt, refl)))),
+      (
+        plan_step ∷ made_step ∷ [],
+        ((refl, refl), ((refl, refl), tt)),
+        (place_of device, refl, inl (by_device (devices.planned [] 0), plan_step, made_step ∷ [], refl, (refl, tt), inl ([], reply.Range, refl, tt, refl))),
+      ),
       tt,
     );
     counted = counted;

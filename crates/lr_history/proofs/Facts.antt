@@ -3,7 +3,7 @@ use Rattle.std.proofs.Common.{◌≡◌, ℕ, List, [], ◌∷◌, ◌++◌, Som
 use Rattle.std.specs.Prelude.{⊤}
 use Rattle.std.specs.List.{AllByRecursion, flat_map}
 use Rattle.lr_walk.specs.Walk.{Walks}
-use Rattle.lr_walk.specs.Steps.{Call, on_device, on_cache, on_node, on_depot, Reply, by_device, by_cache, by_node, by_depot, Step, step, Answers, Asks}
+use Rattle.lr_walk.specs.Steps.{Call, on_device, Reply, by_device, Step, step, Answers, Asks}
 use Rattle.lr_walk.specs.Device.{Piece}
 use Rattle.lr_walk.specs.Device as devices
 use Rattle.lr_history.specs.Jobs.{IsApart}

@@ -12,7 +12,7 @@ use Rattle.lr_device.specs.declared.call.DeviceCall.{DeviceCall}
 use Rattle.lr_device.specs.Machine.{run as made_by}
 use Rattle.lr_device.proofs.Exact.{demand_has}
 use Rattle.lr_walk.specs.declared.trail.JobResult.{JobResult}
-use Rattle.lr_walk.specs.Steps.{on_cache, by_cache, Step}
+use Rattle.lr_walk.specs.Steps.{on_cache, by_cache}
 use Rattle.lr_walk.specs.Cache.{seen_call, seen_reply}
 use Rattle.lr_walk.specs.Calls.{DevicePlace}
 use Rattle.lr_walk.specs.Jobs.{Context}
@@ -38,7 +38,6 @@ use Rattle.lr_history.proofs.Among.{first, later}
 use Rattle.lr_history.proofs.Logs.{caller_of}
 use Rattle.lr_history.proofs.Naming.{fetched_step, fetched_on, led_step, led_on}
 use Rattle.lr_history.proofs.Demanded.{Good, trail_good, zip_all}
-
 
 abbrev is_it : List ℕ → Name → Bool
 is_it x name = bytes_eq name.bytes x

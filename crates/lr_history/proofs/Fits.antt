@@ -11,7 +11,7 @@ use Rattle.lr_walk.specs.declared.place.LoadPlace.{LoadPlace}
 use Rattle.lr_walk.specs.declared.trail.Answer.{Answer}
 use Rattle.lr_walk.specs.declared.trail.Answer.TheVariants.{Fault, Spoiled, Memory}
 use Rattle.lr_walk.specs.Walk.{Choose}
-use Rattle.lr_walk.specs.Steps.{Call, on_device, on_cache, on_node, on_depot, Reply, by_device, by_cache, by_node, by_depot, Step, step, Answers}
+use Rattle.lr_walk.specs.Steps.{Call, on_device, on_cache, Reply, by_device, by_cache, by_depot, Step, step}
 use Rattle.lr_walk.specs.Device.{Piece}
 use Rattle.lr_walk.specs.Device as devices
 use Rattle.lr_walk.specs.Cache as caches
@@ -23,7 +23,6 @@ use Rattle.lr_history.specs.Jobs.{JobSeen, calls, another, IsApart, WalksSeen}
 use Rattle.lr_history.specs.Ready.{claim_by, FitsClaim, plan_by, FitsPlan, out_after, Fit, WalksFit, NextFits}
 use Rattle.lr_history.proofs.Facts.{asked, all_weaker}
 use Rattle.lr_history.proofs.Calls.{commit_step}
-
 
 -- ---- lists of steps that fit
 

@@ -8,10 +8,10 @@ use Rattle.lr_walk.specs.declared.place.LoadPlace.{LoadPlace}
 use Rattle.lr_walk.specs.declared.trail.Answer.{Answer}
 use Rattle.lr_walk.specs.declared.trail.Answer.TheVariants.{Fault, Spoiled}
 use Rattle.lr_walk.specs.Walk.{Choose}
-use Rattle.lr_walk.specs.Steps.{Call, Reply, by_cache, by_node, by_depot, Step, step, Answers}
+use Rattle.lr_walk.specs.Steps.{Reply, by_cache, by_depot, Step, step, Answers}
 use Rattle.lr_walk.specs.Cache as caches
 use Rattle.lr_walk.specs.Depot as depots
-use Rattle.lr_walk.specs.Load.{Ending, with_chunk, with_reply, with_memory, look_of, get_of, fetch_of, put_of, fill_of, give_up_of, after_give_up, Gives, after_fill, Fills, Puts, PutsBack, after_fetch, Fetches, FillsRebuilt, Rebuilds, held_after, is_enough, Gets, after_look, Loads}
+use Rattle.lr_walk.specs.Load.{Ending, with_chunk, with_reply, with_memory, look_of, get_of, fetch_of, put_of, fill_of, give_up_of, after_give_up, Gives, after_fill, Fills, Puts, after_fetch, Fetches, Rebuilds, held_after, is_enough, Gets, after_look, Loads}
 use Rattle.lr_history.specs.Answered.{failed_by, failed_in}
 use Rattle.lr_history.proofs.Facts.{asked, IsQuiet, Plain, quiet}
 

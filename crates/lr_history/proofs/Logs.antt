@@ -1,14 +1,13 @@
 -- A device's log against the own lists of its callers.
-use Rattle.std.proofs.Common.{◌≡◌, ℕ, zero, suc, ◌<◌, List, [], ◌∷◌, ◌++◌, length, map, Some, None, get_or, cond, nat_eq, Bool, true, false, refl, sym, ap, ◌∙◌, eq-eqb, arith}
+use Rattle.std.proofs.Common.{◌≡◌, ℕ, zero, suc, ◌<◌, List, [], ◌∷◌, ◌++◌, length, map, Some, None, get_or, cond, Bool, true, false, refl, sym, ap, ◌∙◌, eq-eqb, arith}
 use Rattle.std.specs.Prelude.{◌==◌}
 use Rattle.std.specs.List.{AllByRecursion, Contains, flat_map}
 use Rattle.std.proofs.lemmas.List.{map-append}
 use Rattle.std.proofs.lemmas.List.Elements.{filter-append}
-use Rattle.lr_convergent.specs.declared.piece.KeptPiece.{KeptPiece}
 use Rattle.lr_object.specs.Own.{own_entries}
 use Rattle.lr_object.specs.declared.entry.Entry.{Entry}
 use Rattle.lr_device.specs.declared.step.DeviceNoted.{DeviceNoted}
-use Rattle.lr_device.specs.declared.step.DeviceNoted.TheVariants.{Plan, Commit, Drop, Reap}
+use Rattle.lr_device.specs.declared.step.DeviceNoted.TheVariants.{Commit}
 use Rattle.lr_device.specs.declared.step.DeviceAnswer.{DeviceAnswer}
 use Rattle.lr_device.specs.declared.step.DeviceAnswer.TheVariants.{Committed}
 use Rattle.lr_device.specs.PlainDevice.{Answered}

@@ -36,7 +36,6 @@ use Rattle.lr_walk.specs.declared.trail.Answer.{Answer}
 use Rattle.lr_walk.specs.declared.trail.Answer.TheVariants.{Cut, Unbegun}
 use Rattle.lr_walk.specs.declared.trail.Did.{Did}
 use Rattle.lr_walk.specs.declared.trail.JobResult.{JobResult}
-use Rattle.lr_walk.specs.Walk.{Walks}
 use Rattle.lr_walk.specs.Steps.{Call, on_device, on_cache, Reply, by_device, by_cache, Step, object_of, is_memory}
 use Rattle.lr_walk.specs.Device as devices
 use Rattle.lr_walk.specs.Cache as caches

@@ -1,11 +1,11 @@
 -- What trails say of an actor's own lists: its answered calls, the pieces that they used, the failures of its fetches.
-use Rattle.std.proofs.Common.{◌≡◌, ℕ, List, [], ◌∷◌, ◌++◌, Some, None, true, false, refl, sym, subst, ◌∙◌}
+use Rattle.std.proofs.Common.{◌≡◌, ℕ, List, [], ◌∷◌, ◌++◌, Some, true, false, refl, sym, subst, ◌∙◌}
 use Rattle.std.specs.List.{AllByRecursion, AllZip, flat_map}
 use Rattle.lr_object.specs.declared.id.ObjectId.TheVariants.{Device, Depot}
 use Rattle.lr_walk.specs.declared.trail.Answer.{Answer}
 use Rattle.lr_walk.specs.declared.trail.Did.{Did}
 use Rattle.lr_walk.specs.declared.trail.JobResult.{JobResult}
-use Rattle.lr_walk.specs.Steps.{Call, on_device, on_cache, on_node, on_depot, Reply, by_device, by_depot, Step, object_of, is_memory}
+use Rattle.lr_walk.specs.Steps.{Call, on_device, on_depot, Reply, by_device, by_depot, Step, object_of, is_memory}
 use Rattle.lr_walk.specs.Device.{Piece}
 use Rattle.lr_walk.specs.Device as devices
 use Rattle.lr_walk.specs.Depot as depots

@@ -1,23 +1,22 @@
 -- Trails over a table of jobs are trails over what is seen of them.
-use Rattle.std.proofs.Common.{◌≡◌, ℕ, List, [], ◌∷◌, ◌++◌, map, Some, None, slice_get, Option, refl, sym, ap, subst, inl, inr, ◌∙◌}
-use Rattle.std.specs.Prelude.{⊤, ◌⊎◌}
-use Rattle.std.specs.List.{AllByRecursion, AllZip}
+use Rattle.std.proofs.Common.{◌≡◌, ℕ, List, [], ◌∷◌, ◌++◌, map, Some, None, slice_get, Option, refl, sym, subst, inl, inr}
+use Rattle.std.specs.List.{AllZip}
 use Rattle.lr_manifest.specs.declared.name.Name.{Name}
 use Rattle.lr_stripe.specs.declared.stripe.Stripe.{Stripe}
 use Rattle.lr_walk.specs.declared.trail.Answer.{Answer}
-use Rattle.lr_walk.specs.declared.trail.Answer.TheVariants.{Cut, Unbegun, Forged, Memory, Dropped, Flipped}
+use Rattle.lr_walk.specs.declared.trail.Answer.TheVariants.{Cut, Unbegun, Forged, Dropped, Flipped}
 use Rattle.lr_walk.specs.declared.trail.JobResult.{JobResult}
 use Rattle.lr_walk.specs.Walk.{Walks, Ends}
-use Rattle.lr_walk.specs.Steps.{Call, on_cache, on_node, on_depot, Reply, by_cache, by_node, by_depot, Step, step, Answers, Asks}
+use Rattle.lr_walk.specs.Steps.{Call, on_cache, on_node, on_depot, Reply, by_cache, by_node, by_depot, Step, Asks}
 use Rattle.lr_walk.specs.Stripes.{node_at}
 use Rattle.lr_walk.specs.Cache as caches
 use Rattle.lr_walk.specs.Node as nodes
 use Rattle.lr_walk.specs.Depot as depots
 use Rattle.lr_walk.specs.Calls.{DevicePlace}
-use Rattle.lr_walk.specs.Damage.{after_evict, Evicts, after_loss, Loses, Damages, after_damage, DropsStripe, FlipsStripe, forged_so_far, PutsForged, PutsAll, Forges}
+use Rattle.lr_walk.specs.Damage.{after_evict, after_loss, Damages, after_damage, DropsStripe, FlipsStripe, forged_so_far, PutsForged, Forges}
 use Rattle.lr_walk.specs.Jobs.{Context, Job, after_depot, AsksDepot, WalksJob, IsWalk}
 use Rattle.lr_walk.specs.Jobs as table
-use Rattle.lr_walk.specs.Trails.{Lists, Reads, HasTrail}
+use Rattle.lr_walk.specs.Trails.{Lists, Reads}
 use Rattle.lr_history.specs.Jobs.{JobSeen, IsApart, IsAnother, StaysApart, WalksSeen, OrCut, HasTrailOf, HasTrailSeen, IsSeenAs, job_seen, OwnTrailIsSeen}
 use Rattle.lr_history.proofs.Facts.{asked}
 

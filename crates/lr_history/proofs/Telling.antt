@@ -4,7 +4,7 @@ use Rattle.std.specs.Prelude.{◌⊎◌}
 use Rattle.std.specs.List.{AllByRecursion}
 use Rattle.lr_walk.specs.declared.trail.Answer.{Answer}
 use Rattle.lr_walk.specs.declared.trail.Answer.TheVariants.{Cut, Unbegun}
-use Rattle.lr_walk.specs.Steps.{Call, on_device, on_cache, on_depot, Reply, by_device, by_cache, Step}
+use Rattle.lr_walk.specs.Steps.{Call, on_device, on_cache, on_depot, Reply, Step}
 use Rattle.lr_walk.specs.Cache as caches
 use Rattle.lr_walk.specs.Depot as depots
 use Rattle.lr_walk.specs.Calls.{DevicePlace}

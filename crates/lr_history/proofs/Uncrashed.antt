@@ -1,5 +1,5 @@
 -- A claim that a crash ended is that of an actor with calls on the host.
-use Rattle.std.proofs.Common.{◌≡◌, ◌≢◌, ℕ, List, [], ◌∷◌, map, Bool, true, false, cond, nat_eq, Some, Option, slice_get, refl, sym, ap, subst, inl, inr, eq-eqb, eqb-true}
+use Rattle.std.proofs.Common.{◌≡◌, ◌≢◌, ℕ, List, [], ◌∷◌, map, Bool, true, false, cond, nat_eq, Some, Option, slice_get, refl, sym, subst, inl, inr, eq-eqb, eqb-true}
 use Rattle.std.specs.Prelude.{◌&&◌, ⊤}
 use Rattle.std.specs.List.{AllByRecursion, Contains, flat_map}
 use Rattle.lr_manifest.specs.declared.name.Name.{Name}
@@ -35,7 +35,6 @@ use Rattle.lr_history.proofs.Logs.{caller_of}
 use Rattle.lr_history.proofs.Naming.{led_step, led_on}
 use Rattle.lr_history.proofs.Demanded.{Good, trail_good, zip_all}
 use Rattle.lr_history.proofs.Fetches.{all_members, all_and, own_led, entry_led, led_is, fetches_few}
-
 
 -- ---- whose claims end
 

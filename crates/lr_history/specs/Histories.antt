@@ -17,7 +17,7 @@ use Rattle.lr_device.specs.Machine.{LogEntry, history}
 use Rattle.lr_walk.specs.declared.trail.Did.{Did}
 use Rattle.lr_walk.specs.declared.trail.Answer.{Answer}
 use Rattle.lr_walk.specs.declared.trail.JobResult.{JobResult}
-use Rattle.lr_walk.specs.Device.{Piece, seen_piece}
+use Rattle.lr_walk.specs.Device.{seen_piece}
 use Rattle.lr_walk.specs.Steps.{Step}
 use Rattle.lr_walk.specs.Trails.{Lists, AreReaps}
 use Rattle.lr_history.specs.Jobs.{JobSeen, calls}

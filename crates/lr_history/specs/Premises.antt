@@ -1,5 +1,5 @@
 -- What the parts of a run deliver.
-use Rattle.std.specs.Prelude.{◌≡◌, ℕ, List, [], length, map, find, take, Some, IsSome, slice_get}
+use Rattle.std.specs.Prelude.{◌≡◌, ℕ, List, [], map, find, take, Some, IsSome, slice_get}
 use Rattle.std.specs.List.{AllByRecursion, Contains}
 use Rattle.lr_layout.specs.Padded.{padded_length}
 use Rattle.lr_manifest.specs.declared.name.Name.{Name}

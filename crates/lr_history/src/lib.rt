@@ -10,6 +10,7 @@
 mod laws;
 
 pub use laws::{
-    calls_are_answered_once, calls_fit, chunks_are_fetched_on_demand, commits_are_planned, device_serves_each_base, ended_actors_hold_nothing, fetches_are_few, grown_logs_are_legal,
+    calls_are_answered_once, calls_fit, chunks_are_fetched_on_demand, commits_are_planned,
+    device_serves_each_base, ended_actors_hold_nothing, fetches_are_few, grown_logs_are_legal,
     histories_are_legal, own_trails_are_seen, premises_can_hold, used_pieces_were_loaded,
 };
