@@ -114,7 +114,7 @@ opened_by_line salt raw names keys strings named keyed among i name key at kat =
 
 -- ---- the base that a manifest denotes
 
-length-with_stream : (s : ℕ → ℕ) (t : ℕ) (text : List ℕ) → length (with_stream s t text) ≡ length text
+pub length-with_stream : (s : ℕ → ℕ) (t : ℕ) (text : List ℕ) → length (with_stream s t text) ≡ length text
 unfolding with_stream
 length-with_stream s t [] = refl
 length-with_stream s t (x ∷ text) = ap suc (length-with_stream s (suc t) text)

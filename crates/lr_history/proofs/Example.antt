@@ -50,13 +50,13 @@ use Rattle.lr_history.proofs.Among.{first}
 
 -- ---- values of shared and owned types
 
-abbrev arc : {X : Type 0} → X → Arc X Global
+abbrev pub arc : {X : Type 0} → X → Arc X Global
 arc x = record { ptr = null_ptr; value = x }
 
-abbrev no_pieces : Global → Vec KeptPiece Global
+abbrev pub no_pieces : Global → Vec KeptPiece Global
 no_pieces heap = record { ptr = null_ptr; len = 0; cap = 0; alloc = heap; items = []; ok = (refl, omega arith); small = omega arith }
 
-abbrev path_of : Global → (l : List Did) → length l < 100 → Vec Did Global
+abbrev pub path_of : Global → (l : List Did) → length l < 100 → Vec Did Global
 path_of heap l h = record { ptr = null_ptr; len = length l; cap = length l; alloc = heap; items = l; ok = (refl, omega arith); small = omega arith }
 
 abbrev past_the_end : DeviceCall
@@ -69,10 +69,10 @@ nothing = finmap.from_sorted []
 no_entries : finmap.entries nothing ≡ []
 no_entries = entries-from_sorted key_cmp [] tt
 
-zero_apart : (i : ℕ) → nat_eq 0 (suc i) ≡ false
+pub zero_apart : (i : ℕ) → nat_eq 0 (suc i) ≡ false
 zero_apart i = grind arith
 
-itself_true : (a : List ℕ) → bytes_eq a a ≡ true
+pub itself_true : (a : List ℕ) → bytes_eq a a ≡ true
 itself_true a = (bytes_eq-Decides a a).1 refl
 
 module _ (heap : Global) (salt tenant : List ℕ) where

@@ -22,4 +22,5 @@ mod Uncrashed
 mod Fits
 mod Out
 mod Example
+mod ExampleRead
 pub mod Public

@@ -1,7 +1,7 @@
 //! Laws, as contracts of functions that do nothing: what follows for a run.
 ghost use Rattle.lr_seal.specs.Made.{HaveDistinctDigests};
 ghost use Rattle.lr_history.specs.Jobs.{OwnTrailIsSeen};
-ghost use Rattle.lr_history.specs.Example.{Worked};
+ghost use Rattle.lr_history.specs.Example.{Worked, WorkedRead};
 ghost use Rattle.lr_history.specs.Run.{Run};
 ghost use Rattle.lr_history.specs.Strings.{strings_of};
 ghost use Rattle.lr_history.specs.Premises.{IsRun, IsSetUp, AreDeviceLogs};
@@ -84,7 +84,9 @@ pub fn ended_actors_hold_nothing()
 {}
 
 /// There is a run that meets all premises: a device on an empty image that an image line made, and an actor whose read of it is
-/// past its end. The allocator is that of the lists in its logs.
+/// past its end. And there is one whose device reads a chunk of an image that the store had, with the cache filled by another
+/// caller. The allocator is that of the lists in the logs.
 pub fn premises_can_hold(_alloc: Global)
-    ensures { Worked }
+    ensures all { Worked }
+    ensures read { WorkedRead }
 {}
