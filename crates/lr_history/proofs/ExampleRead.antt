@@ -1,6 +1,6 @@
 -- A run whose device reads a chunk of an image that the store had. Nothing of a chunk's length is computed, nor any digest.
-use Rattle.std.proofs.Common.{◌≡◌, ◌≢◌, ◌≤◌, ◌<◌, ℕ, zero, suc, ◌*◌, List, [], ◌∷◌, ◌++◌, length, take, drop, map, filter, replicate, Some, None, slice_get, cond, Bool, true, false, nat_eq, refl, sym, ap, subst, ◌∙◌, inl, arith, append-nil}
-use Rattle.std.specs.Prelude.{Vec, find, IsSome}
+use Rattle.std.proofs.Common.{◌≡◌, ℕ, zero, suc, List, [], ◌∷◌, length, take, drop, map, filter, replicate, Some, None, slice_get, cond, Bool, true, false, refl, sym, ap, subst, ◌∙◌, inl, arith}
+use Rattle.std.specs.Prelude.{Vec}
 use Rattle.std.specs.declared.alloc.Global.{Global}
 use denote.RawPtr.{null_ptr}
 use Rattle.std.specs.List.{AllByRecursion, Contains}
@@ -41,7 +41,6 @@ use Rattle.lr_device.specs.Demand.{demand, buffers}
 use Rattle.lr_device.specs.Machine.{LogEntry}
 use Rattle.lr_device.specs.Answers.{Answers, used_of}
 use Rattle.lr_device.specs.Enters.{Enters}
-use Rattle.lr_cache.specs.Machine as cache
 use Rattle.lr_cache.specs.declared.call.CacheCall.TheVariants.{Look, Fill}
 use Rattle.lr_cache.specs.declared.call.CacheReply.TheVariants.{Lead, Filled, Hit}
 use Rattle.lr_walk.specs.declared.trail.Answer.TheVariants.{Done}
@@ -53,12 +52,11 @@ use Rattle.lr_walk.specs.Cache as caches
 use Rattle.lr_walk.specs.Load.{with_chunk}
 use Rattle.lr_walk.specs.Trails.{places, AreCounted, AreReaps}
 use Rattle.lr_history.specs.Jobs.{calls, HasTrailSeen}
-use Rattle.lr_history.specs.Run.{ImageLine, DeviceLine, DeviceSeen, CacheSeen, ActorSeen, Run}
+use Rattle.lr_history.specs.Run.{DeviceLine, DeviceSeen, CacheSeen, ActorSeen, Run}
 use Rattle.lr_history.specs.Strings.{is_chunk_key, chunk_bodies, strings_of}
-use Rattle.lr_history.specs.Opened.{body_of}
 use Rattle.lr_history.specs.Lists.{own, place_of, context_of}
-use Rattle.lr_history.specs.Premises.{IsOpened, IsRun, IsSetUp, AreCallers, AreDeviceLogs, size_of}
-use Rattle.lr_history.specs.Claims.{HaveOwnLeases, AreApart}
+use Rattle.lr_history.specs.Premises.{IsOpened, AreCallers, AreDeviceLogs, size_of}
+use Rattle.lr_history.specs.Claims.{HaveOwnLeases}
 use Rattle.lr_history.specs.Example.{WorkedRead}
 use Rattle.lr_history.proofs.Among.{first, chunk_key, is_equal}
 use Rattle.lr_history.proofs.Bases.{length-with_stream, length-chunk_text}
@@ -239,14 +237,17 @@ module _ (heap : Global) (body tenant : List ℕ) (long : length body ≡ 524288
 
   committed : Grown Answers Enters 4096 [] (plan_entry ∷ commit_entry ∷ [])
   committed =
-      more planned (asks.Commit (one_piece heap kept) (record { pages = 0; told = 512; kept = 512 })) (Committed (reply.Got got)) commit_entry
-      (record { caller = 1; call = first_sector; pages = 0 }, refl, record {
-        whole = rw its_demand refl;
-        enough = refl;
-        ranged = refl;
-        sized = got_long;
-        plain = λ base wide agrees used. rw wide (ap reply.Got (sym (begins base wide (first_piece base used))));
-      })
+      more planned (asks.Commit (one_piece heap kept) (record { pages = 0; told = 512; kept = 512 })) (Committed (reply.Got got)) commit_entry (
+        record { caller = 1; call = first_sector; pages = 0 },
+        refl,
+        record {
+          whole = rw its_demand refl;
+          enough = refl;
+          ranged = refl;
+          sized = got_long;
+          plain = λ base wide agrees used. rw wide (ap reply.Got (sym (begins base wide (first_piece base used))));
+        },
+      )
       (record { logged = refl; noted = (refl, rw its_demand refl); told = refl })
 
   logs : AreDeviceLogs run
@@ -293,12 +294,35 @@ module _ (heap : Global) (body tenant : List ℕ) (long : length body ≡ 524288
   trail : HasTrailSeen (context_of run) (own run 1) actor.jobs actor.results
   trail = record {
     walks = (
-      (plan_step ∷ hit_step ∷ made_step ∷ [], ((refl, refl), ((refl, refl), ((refl, refl), tt))),
-        (place_of device, refl, inl (by_device (devices.planned (0 ∷ []) 0), plan_step, hit_step ∷ made_step ∷ [], refl, (refl, tt),
-          inl (its_name, opened_key, refl, ap (λ (l : List (List ℕ)). slice_get l 0) keys_are,
-            (hit_step ∷ [], made_step ∷ [], with_chunk body, refl,
-              (by_cache (caches.hit body), hit_step, [], refl, (refl, refl), (refl, refl)),
-              inl (piece ∷ [], reply.Got got, refl, (first piece [], tt), refl)))))),
+      (
+        plan_step ∷ hit_step ∷ made_step ∷ [],
+        ((refl, refl), ((refl, refl), ((refl, refl), tt))),
+        (
+          place_of device,
+          refl,
+          inl (
+            by_device (devices.planned (0 ∷ []) 0),
+            plan_step,
+            hit_step ∷ made_step ∷ [],
+            refl,
+            (refl, tt),
+            inl (
+              its_name,
+              opened_key,
+              refl,
+              ap (λ (l : List (List ℕ)). slice_get l 0) keys_are,
+              (
+                hit_step ∷ [],
+                made_step ∷ [],
+                with_chunk body,
+                refl,
+                (by_cache (caches.hit body), hit_step, [], refl, (refl, refl), (refl, refl)),
+                inl (piece ∷ [], reply.Got got, refl, (first piece [], tt), refl),
+              ),
+            ),
+          ),
+        ),
+      ),
       tt,
     );
     counted = counted;
