@@ -3,7 +3,7 @@ use Rattle.std.proofs.Common.{◌≡◌, ◌≢◌, ◌<◌, ◌≤◌, ◌+◌,
 use Rattle.std.specs.Prelude.{◌⊎◌}
 use Rattle.std.proofs.lemmas.Bool.{cases_lt}
 use Rattle.std.proofs.Math.Nat.{mul-le-mul_left}
-use Rattle.lr_rounds.specs.Rounds.{Moment, In, Steps, Round, total, IsBegun, Falls, RoundFalls, Rounds, rounds_left, RunsEnd}
+use Rattle.lr_rounds.specs.Rounds.{Moment, In, Steps, Round, total, IsBegun, Falls, RoundFalls, rounds_left, RunsEnd}
 
 differs : (a b : ℕ) → nat_eq a b ≡ false → a ≢ b
 differs a b f e = let t = eq-eqb a b e in absurd (cc)
