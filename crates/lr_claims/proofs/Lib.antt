@@ -1,0 +1,6 @@
+mod Hits
+mod Few
+mod Own
+mod Legal
+mod Sessions
+pub mod Public

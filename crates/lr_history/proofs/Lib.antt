@@ -1,0 +1,26 @@
+mod Facts
+mod Loads
+mod Calls
+mod Walked
+mod Paths
+mod Owned
+mod Logs
+mod Bases
+mod Among
+mod Entries
+mod Whole
+mod Counts
+mod Seen
+mod Parts
+mod Loading
+mod Calling
+mod Telling
+mod Naming
+mod Demanded
+mod Fetches
+mod Uncrashed
+mod Fits
+mod Out
+mod Example
+mod ExampleRead
+pub mod Public

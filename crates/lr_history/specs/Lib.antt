@@ -1,0 +1,14 @@
+pub mod Jobs
+pub mod Run
+pub mod Strings
+pub mod Opened
+pub mod Loaded
+pub mod Lists
+pub mod Answered
+pub mod Premises
+pub mod Histories
+pub mod Told
+pub mod OnDemand
+pub mod Claims
+pub mod Ready
+pub mod Example

@@ -1,0 +1,5 @@
+mod Steps
+mod Opening
+mod Unspoiled
+mod Whole
+mod Leases
