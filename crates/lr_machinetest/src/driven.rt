@@ -125,7 +125,7 @@ pub struct Creating<'a> {
 }
 
 /// Gives the piece at this place, or says that the last one was given. How many bytes are given so far.
-pub fn give(alloc: Global, machine: &mut Create, of: Creating, given: usize) -> usize
+pub fn give(alloc: Global, machine: &mut Create, of: &Creating, given: usize) -> usize
     requires wants { is_wanting machine.old.need ≡ true }
     requires given { HasGiven machine.old.need given }
     ensures ready { IsReady machine.new }
@@ -135,8 +135,10 @@ pub fn give(alloc: Global, machine: &mut Create, of: Creating, given: usize) -> 
     if given < end && given % CHUNK == 0 && end <= 10_737_418_240 {
         let (_, rest) = of.raw.split_at(given);
         let (piece, _) = rest.split_at(end - given);
-        let _ = machine.give(alloc, piece);
-        return end;
+        return match machine.give(alloc, piece) {
+            Ok(()) => end,
+            Err(_) => given,
+        };
     }
     if of.stops {
         machine.stop();
@@ -174,7 +176,7 @@ pub fn create<O: Origin>(
     alloc: Global,
     depot: &mut Depot<O>,
     caller: u32,
-    of: Creating,
+    of: &Creating,
 ) -> Option<CreateEnd> {
     let mut machine = Create::new(alloc, of.image, of.tenant);
     let mut given = 0usize;

@@ -158,7 +158,7 @@ fn created<O: Origin>(
     stops: bool,
 ) -> Result<Ended, Fail> {
     let raw = raw(alloc)?;
-    let end = reached(create(alloc, depot, caller, creating(&raw, stops)?))?;
+    let end = reached(create(alloc, depot, caller, &creating(&raw, stops)?))?;
     Ok(of_creation(&end))
 }
 

@@ -31,7 +31,7 @@ pub const TEXTS: &[&[u8]] = &[
 pub const ROOTS: u32 = 3;
 
 /// A part of a root.
-#[derive(Clone, Copy, Debug, PartialEq, Eq)]
+#[derive(Clone, Copy)]
 pub enum Part {
     Salt,
     Expired,
@@ -70,7 +70,7 @@ pub fn place_of(text: &[u8]) -> Option<usize> {
 }
 
 /// A set of keys, by their places.
-#[derive(Clone, Copy, Debug, PartialEq, Eq)]
+#[derive(Clone, Copy, PartialEq, Eq)]
 pub struct KeySet {
     has: [bool; KEYS],
 }

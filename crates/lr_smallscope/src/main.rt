@@ -2,8 +2,9 @@
 //!
 //! From each of some starts it makes all sequences of up to so many calls by two callers, each store call failing at most
 //! once, with and without effect. After each call it judges the view and the store by rules of its own, and starts a
-//! depot on the store again. A sequence that comes to a state seen before isn't made longer. For each start it prints
-//! how many states it saw and how many sequences it made.
+//! depot on the store again. A sequence that comes to a state seen before isn't made longer, and calls that are refused
+//! are made one after another in one run. For each start it prints how many states and how many different stores it
+//! saw, and how many runs it made.
 //!
 //! `keys` has the keys of the scope, `rules` what must hold of a set of them, `store` the store, `images` the images,
 //! `moves` the calls, `record` what their replies tell, `run` one sequence, `search` all of them.
@@ -26,7 +27,7 @@ use search::explore;
 use std::process::ExitCode;
 
 // How many calls are made after a start.
-const DEPTH: u32 = 1;
+const DEPTH: u32 = 5;
 
 const EMPTY: &[Move] = &[];
 
@@ -75,7 +76,12 @@ fn search_from(rt: &HostRuntime, name: &str, start: &[Move]) -> Result<bool, Sco
     let scope = Scope::make(rt.alloc())?;
     let found = explore(rt.alloc(), &scope, start, DEPTH)?;
     let Some(broken) = found.broken else {
-        println!(rt; "{name} states {} sequences {}", found.states, found.sequences)?;
+        println!(rt;
+            "{name} states {} stores {} runs {}",
+            found.states,
+            found.stores,
+            found.runs
+        )?;
         return Ok(true);
     };
     println!(rt; "{name}: {broken:?} after {:?}", found.path)?;

@@ -31,7 +31,10 @@ pub enum Ask {
 /// A caller and its call.
 pub type Move = (u32, Ask);
 
-/// The calls. Those that have nothing to do with a session are made by one caller alone, since no reply tells who
+/// The call that begins a root.
+pub const ROTATION: &[Move] = &[(1, Ask::Rotate)];
+
+/// All other calls. Those that have nothing to do with a session are made by one caller alone, since no reply tells who
 /// made them.
 pub const MOVES: &[Move] = &[
     (1, Ask::Open(Image::A)),
@@ -39,7 +42,6 @@ pub const MOVES: &[Move] = &[
     (1, Ask::Fetch(0)),
     (1, Ask::Close(0)),
     (1, Ask::Close(1)),
-    (1, Ask::Rotate),
     (1, Ask::Withdraw(Image::A)),
     (1, Ask::Withdraw(Image::B)),
     (1, Ask::Expire(1)),

@@ -8,14 +8,14 @@ use lr_depot::DepotReply;
 use lr_origin::Key;
 use std::alloc::Global;
 
-#[derive(Clone, Copy, Debug)]
+#[derive(Clone, Copy)]
 pub struct Lease {
     pub number: u64,
     pub image: Image,
 }
 
 /// A session. A creation copies from no root, which is 0 here.
-#[derive(Clone, Copy, Debug)]
+#[derive(Clone, Copy)]
 pub struct Session {
     pub number: u64,
     pub caller: u32,
@@ -26,7 +26,7 @@ pub struct Session {
 }
 
 /// A put in doubt: the place of its key, and the session that made it, or 0.
-#[derive(Clone, Copy, Debug)]
+#[derive(Clone, Copy)]
 pub struct Doubt {
     pub place: usize,
     pub maker: u64,

@@ -3,7 +3,7 @@ use crate::images::{IMAGES, Image};
 use crate::keys::{KeySet, PARTS, Part, ROOTS};
 
 /// What doesn't hold.
-#[derive(Clone, Copy, Debug, PartialEq, Eq)]
+#[derive(Clone, Copy, Debug)]
 pub enum Broken {
     /// A root is there, and one before it isn't.
     Gap,
@@ -29,6 +29,8 @@ pub enum Broken {
     Unfetched,
     /// A depot didn't start on the store, or saw another view.
     Start,
+    /// A refused call changed something.
+    Changed,
 }
 
 /// The greatest root that is there, or 0.

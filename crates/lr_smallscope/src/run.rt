@@ -1,4 +1,4 @@
-//! One sequence of calls, and what it leaves.
+//! A depot under way, and what it leaves.
 use crate::error::ScopeError;
 use crate::images::{IMAGES, Image, SALT, Scope, is_of, spelling};
 use crate::keys::{KeySet, PARTS, Part, ROOTS, TEXTS, place};
@@ -6,14 +6,15 @@ use crate::moves::{Ask, Move, call_of};
 use crate::record::Record;
 use crate::rules::{Broken, first_broken, is_homed, top};
 use crate::store::{Failure, ScopeStore};
-use lr_depot::{Depot, DepotCall, DepotLog, DepotReply};
+use lr_depot::{Depot, DepotLog, DepotReply};
 use lr_object::Object;
 use lr_roots::Catalog;
 use std::alloc::Global;
 
-/// What a sequence leaves: how many store calls it made, how many roots there are, and all that later replies hang on.
+/// What a depot leaves: its store, how many calls that got, how many roots there are, and all that later replies hang on.
 #[derive(Drop)]
 pub struct Left {
+    pub store: ScopeStore,
     pub calls: u64,
     pub roots: u32,
     pub state: Vec<u8>,
@@ -41,21 +42,29 @@ fn is_unfetched(record: &Record, asked: Ask, reply: &DepotReply) -> bool {
     }
 }
 
-// Makes one call, and keeps what its reply tells.
-fn make(
-    alloc: Global,
-    scope: &Scope,
-    depot: &mut Depot<ScopeStore>,
-    record: &mut Record,
-    step: Move,
-) -> Result<Option<Broken>, ScopeError> {
-    let (caller, asked) = step;
-    let call: DepotCall = call_of(alloc, scope, record, asked)?;
-    let reply = serve(alloc, depot, caller, call);
-    if is_unfetched(record, asked, &reply) {
-        return Ok(Some(Broken::Unfetched));
+// Whether a reply refuses its call: view, store, leases and sessions stay.
+fn is_refusal(reply: &DepotReply) -> bool {
+    match reply {
+        DepotReply::NoImage
+        | DepotReply::NoLease
+        | DepotReply::NoChunk
+        | DepotReply::NoRoot
+        | DepotReply::Taken
+        | DepotReply::Doubt(_)
+        | DepotReply::NoSession
+        | DepotReply::Missing(_)
+        | DepotReply::NotRetiredHome { .. }
+        | DepotReply::Overtaken { .. }
+        | DepotReply::NotRetired
+        | DepotReply::Serves(_)
+        | DepotReply::Session(_)
+        | DepotReply::NotExpired
+        | DepotReply::NotDeleted
+        | DepotReply::Swept
+        | DepotReply::NoDoubt
+        | DepotReply::Nothing => true,
+        _ => false,
     }
-    record.keep(caller, asked, &reply)
 }
 
 /// The keys of a view.
@@ -337,87 +346,145 @@ fn put_origins(
     Ok(())
 }
 
-// Whether a depot starts on the store, and sees just its keys.
-fn starts(alloc: Global, scope: &Scope, store: ScopeStore, keys: &KeySet) -> bool {
-    match Depot::start(alloc, store) {
-        Ok(depot) => view(scope, depot.catalog()) == *keys,
-        Err(_) => false,
-    }
-}
-
-// The first thing that is wrong with what a depot leaves.
+// The first thing that is wrong with what a depot leaves, but for the bodies in the store.
 fn broken_end(
-    alloc: Global,
     scope: &Scope,
     record: &Record,
     store: &ScopeStore,
     left: &DepotLog,
     catalog: &Catalog,
-) -> Result<Option<Broken>, ScopeError> {
+) -> Option<Broken> {
     let view = view(scope, catalog);
     let held = held(store);
     if store.len() != count(&held) {
-        return Ok(Some(Broken::Foreign));
+        return Some(Broken::Foreign);
     }
     if !are_doubted(record, left) {
-        return Ok(Some(Broken::Doubts));
+        return Some(Broken::Doubts);
     }
     if !agree(record, &view, &held) {
-        return Ok(Some(Broken::Differs));
+        return Some(Broken::Differs);
     }
-    if !IMAGES.iter().all(|image| are_manifests(scope, catalog, *image)) {
-        return Ok(Some(Broken::Body));
+    if !IMAGES
+        .iter()
+        .all(|image| are_manifests(scope, catalog, *image))
+    {
+        return Some(Broken::Body);
     }
-    if let Some(broken) = broken_body(alloc, store)? {
-        return Ok(Some(broken));
-    }
-    Ok(broken_outcome(record, &view).or(broken_keys(record, &held)))
+    broken_outcome(record, &view).or(broken_keys(record, &held))
 }
 
-// Judges what a depot leaves.
-fn judge(
-    alloc: Global,
-    scope: &Scope,
+/// A depot under way, with what its replies tell.
+#[derive(Drop)]
+pub struct Trial {
     depot: Depot<ScopeStore>,
-    record: &Record,
-) -> Result<Result<Left, Broken>, ScopeError> {
-    let (store, left, catalog) = depot.end();
-    if let Some(broken) = broken_end(alloc, scope, record, &store, &left, &catalog)? {
-        return Ok(Err(broken));
-    }
-    let view = view(scope, &catalog);
-    let held = held(&store);
-    let mut state = Vec::new(alloc);
-    put_keys(&mut state, &view, &held)?;
-    put_record(&mut state, record)?;
-    put_origins(&mut state, scope, &catalog)?;
-    let calls = store.calls();
-    if !starts(alloc, scope, store, &held) {
-        return Ok(Err(Broken::Start));
-    }
-    let roots = top(&view);
-    Ok(Ok(Left {
-        calls,
-        roots,
-        state,
-    }))
+    record: Record,
 }
 
-/// Makes the calls in turn, of which one store call may fail.
-pub fn run(
-    alloc: Global,
-    scope: &Scope,
-    steps: &[Move],
-    failure: Failure,
-) -> Result<Result<Left, Broken>, ScopeError> {
-    let Ok(mut depot) = Depot::start(alloc, ScopeStore::new(alloc, failure)) else {
-        return Ok(Err(Broken::Start));
-    };
-    let mut record = Record::new(alloc);
-    for step in steps.iter() {
-        if let Some(broken) = make(alloc, scope, &mut depot, &mut record, *step)? {
-            return Ok(Err(broken));
+impl Trial {
+    // A depot over an empty store.
+    fn new(alloc: Global, failure: Failure) -> Result<Trial, Broken> {
+        match Depot::start(alloc, ScopeStore::new(alloc, failure)) {
+            Ok(depot) => Ok(Trial {
+                depot,
+                record: Record::new(alloc),
+            }),
+            Err(_) => Err(Broken::Start),
         }
     }
-    judge(alloc, scope, depot, &record)
+
+    // Makes one call, and keeps what its reply tells. Whether it was refused.
+    fn make(
+        &mut self,
+        alloc: Global,
+        scope: &Scope,
+        step: Move,
+    ) -> Result<Result<bool, Broken>, ScopeError> {
+        let (caller, asked) = step;
+        let call = call_of(alloc, scope, &self.record, asked)?;
+        let reply = serve(alloc, &mut self.depot, caller, call);
+        if is_unfetched(&self.record, asked, &reply) {
+            return Ok(Err(Broken::Unfetched));
+        }
+        match self.record.keep(caller, asked, &reply)? {
+            Some(broken) => Ok(Err(broken)),
+            None => Ok(Ok(is_refusal(&reply))),
+        }
+    }
+
+    /// A depot after these calls, with one store call that fails.
+    pub fn begin(
+        alloc: Global,
+        scope: &Scope,
+        steps: &[Move],
+        failure: Failure,
+    ) -> Result<Result<Trial, Broken>, ScopeError> {
+        let mut trial = match Trial::new(alloc, failure) {
+            Ok(trial) => trial,
+            Err(broken) => return Ok(Err(broken)),
+        };
+        for step in steps.iter() {
+            if let Err(broken) = trial.make(alloc, scope, *step)? {
+                return Ok(Err(broken));
+            }
+        }
+        Ok(Ok(trial))
+    }
+
+    /// Makes calls in turn until one isn't refused. Its place, or their number.
+    pub fn until_done(
+        &mut self,
+        alloc: Global,
+        scope: &Scope,
+        steps: &[Move],
+    ) -> Result<Result<usize, Broken>, ScopeError> {
+        for (at, step) in steps.iter().enumerate() {
+            match self.make(alloc, scope, *step)? {
+                Ok(true) => {}
+                Ok(false) => return Ok(Ok(at)),
+                Err(broken) => return Ok(Err(broken)),
+            }
+        }
+        Ok(Ok(steps.len()))
+    }
+
+    /// Ends the depot, and judges all that it leaves but the bodies in its store.
+    pub fn judge(
+        self,
+        alloc: Global,
+        scope: &Scope,
+    ) -> Result<Result<Left, Broken>, ScopeError> {
+        let Trial { depot, record } = self;
+        let (store, left, catalog) = depot.end();
+        if let Some(broken) = broken_end(scope, &record, &store, &left, &catalog) {
+            return Ok(Err(broken));
+        }
+        let view = view(scope, &catalog);
+        let mut state = Vec::new(alloc);
+        put_keys(&mut state, &view, &held(&store))?;
+        put_record(&mut state, &record)?;
+        put_origins(&mut state, scope, &catalog)?;
+        Ok(Ok(Left {
+            calls: store.calls(),
+            roots: top(&view),
+            store,
+            state,
+        }))
+    }
+}
+
+/// Judges the bodies of a store, and starts a depot on it.
+pub fn judge_store(
+    alloc: Global,
+    scope: &Scope,
+    store: ScopeStore,
+) -> Result<Option<Broken>, ScopeError> {
+    if let Some(broken) = broken_body(alloc, &store)? {
+        return Ok(Some(broken));
+    }
+    let keys = held(&store);
+    match Depot::start(alloc, store.mended()) {
+        Ok(depot) if view(scope, depot.catalog()) == keys => Ok(None),
+        _ => Ok(Some(Broken::Start)),
+    }
 }

@@ -2,9 +2,9 @@
 use crate::error::ScopeError;
 use crate::images::Scope;
 use crate::keys::ROOTS;
-use crate::moves::{Ask, MOVES, Move};
+use crate::moves::{MOVES, Move, ROTATION};
 use crate::rules::Broken;
-use crate::run::{Left, run};
+use crate::run::{Left, Trial, judge_store};
 use crate::store::Failure;
 use std::alloc::Global;
 use std::collections::BTreeMap;
@@ -14,7 +14,8 @@ use std::mem;
 #[derive(Drop)]
 pub struct Found {
     pub states: u64,
-    pub sequences: u64,
+    pub stores: u64,
+    pub runs: u64,
     pub broken: Option<Broken>,
     pub path: Vec<Move>,
 }
@@ -26,95 +27,201 @@ struct Node {
     failure: Failure,
     calls: u64,
     roots: u32,
+    state: Vec<u8>,
 }
 
-// The states seen so far, with whether each was seen only after a failure, and the sequences to make longer.
+// The states seen so far, with whether each was seen only after a failure; the contents of stores judged so far; the
+// sequences to make longer.
 #[derive(Drop)]
 struct Search {
     seen: BTreeMap<Vec<u8>, bool>,
+    judged: BTreeMap<Vec<u8>, bool>,
     next: Vec<Node>,
-    sequences: u64,
+    runs: u64,
     broken: Option<Broken>,
     path: Vec<Move>,
 }
 
-const NO_FAILURE: Failure = Failure {
-    at: 0,
-    done: false,
-};
+const NO_FAILURE: Failure = Failure { at: 0, done: false };
+
+// A sequence with one call more.
+fn longer(alloc: Global, path: &[Move], step: Move) -> Result<Vec<Move>, ScopeError> {
+    let mut path = path.to_vec(alloc)?;
+    path.push(step)?;
+    Ok(path)
+}
 
 impl Search {
+    // Keeps what is broken first, with its sequence.
+    fn refuse(&mut self, alloc: Global, broken: Broken, path: &[Move]) -> Result<(), ScopeError> {
+        if self.broken.is_none() {
+            self.broken = Some(broken);
+            self.path = path.to_vec(alloc)?;
+        }
+        Ok(())
+    }
+
     // Whether the state wasn't seen yet, or only after a failure where this one has had none.
-    fn is_new(&mut self, state: Vec<u8>, failed: bool) -> Result<bool, ScopeError> {
-        match self.seen.get(&state) {
+    fn is_new(&mut self, alloc: Global, state: &[u8], failed: bool) -> Result<bool, ScopeError> {
+        match self.seen.get(state) {
             Some(after_failure) if failed || !*after_failure => Ok(false),
             _ => {
-                self.seen.insert(state, failed)?;
+                self.seen.insert(state.to_vec(alloc)?, failed)?;
                 Ok(true)
             }
         }
     }
 
-    // Makes a sequence. How many store calls it made.
-    fn attempt(
+    // Judges a store, unless one of the same contents was judged.
+    fn check_store(
         &mut self,
         alloc: Global,
         scope: &Scope,
+        left: Left,
         path: &[Move],
+    ) -> Result<(), ScopeError> {
+        let contents = left.store.contents(alloc)?;
+        if self.judged.get(contents.as_slice()).is_some() {
+            return Ok(());
+        }
+        self.judged.insert(contents, true)?;
+        if let Some(broken) = judge_store(alloc, scope, left.store)? {
+            return self.refuse(alloc, broken, path);
+        }
+        Ok(())
+    }
+
+    // Ends a trial after a sequence, and keeps the state that it came to. How many store calls it made.
+    fn finish(
+        &mut self,
+        alloc: Global,
+        scope: &Scope,
+        trial: Trial,
+        path: Vec<Move>,
         failure: Failure,
     ) -> Result<u64, ScopeError> {
-        self.sequences = self.sequences.saturating_add(1);
-        let Left {
-            calls,
-            roots,
-            state,
-        } = match run(alloc, scope, path, failure)? {
+        self.runs = self.runs.saturating_add(1);
+        let left = match trial.judge(alloc, scope)? {
             Ok(left) => left,
             Err(broken) => {
-                if self.broken.is_none() {
-                    self.broken = Some(broken);
-                    self.path = path.to_vec(alloc)?;
-                }
+                self.refuse(alloc, broken, &path)?;
                 return Ok(0);
             }
         };
-        if self.is_new(state, failure.at > 0)? {
+        let calls = left.calls;
+        let roots = left.roots;
+        let state = left.state.to_vec(alloc)?;
+        self.check_store(alloc, scope, left, &path)?;
+        if self.is_new(alloc, &state, failure.at > 0)? {
             self.next.push(Node {
-                path: path.to_vec(alloc)?,
+                path,
                 failure,
                 calls,
                 roots,
+                state,
             })?;
         }
         Ok(calls)
     }
 
-    // A sequence with one call more, and where this call asks the store, with this failing.
+    // Makes a sequence with one store call that fails.
+    fn attempt(
+        &mut self,
+        alloc: Global,
+        scope: &Scope,
+        path: Vec<Move>,
+        failure: Failure,
+    ) -> Result<(), ScopeError> {
+        match Trial::begin(alloc, scope, &path, failure)? {
+            Ok(trial) => {
+                self.finish(alloc, scope, trial, path, failure)?;
+                Ok(())
+            }
+            Err(broken) => self.refuse(alloc, broken, &path),
+        }
+    }
+
+    // After a sequence, ends a trial that made this call: keeps its state, and where it asked the store, those that come
+    // of a failure.
     fn lengthen(
         &mut self,
         alloc: Global,
         scope: &Scope,
         node: &Node,
+        trial: Trial,
         step: Move,
     ) -> Result<(), ScopeError> {
-        let mut path = node.path.to_vec(alloc)?;
-        path.push(step)?;
-        let calls = self.attempt(alloc, scope, &path, node.failure)?;
+        let path = longer(alloc, &node.path, step)?;
+        let calls = self.finish(alloc, scope, trial, path, node.failure)?;
         if node.failure.at > 0 || calls <= node.calls {
             return Ok(());
         }
         for done in [false, true] {
-            self.attempt(alloc, scope, &path, Failure { at: calls, done })?;
+            let path = longer(alloc, &node.path, step)?;
+            self.attempt(alloc, scope, path, Failure { at: calls, done })?;
         }
         Ok(())
     }
 
+    // Ends a trial whose last calls were all refused: nothing has changed.
+    fn settle(
+        &mut self,
+        alloc: Global,
+        scope: &Scope,
+        node: &Node,
+        trial: Trial,
+    ) -> Result<(), ScopeError> {
+        self.runs = self.runs.saturating_add(1);
+        match trial.judge(alloc, scope)? {
+            Ok(left) if left.state == node.state && left.calls == node.calls => Ok(()),
+            Ok(_) => self.refuse(alloc, Broken::Changed, &node.path),
+            Err(broken) => self.refuse(alloc, broken, &node.path),
+        }
+    }
+
+    // Makes calls after a sequence up to the first that isn't refused. How many there were.
+    fn probe(
+        &mut self,
+        alloc: Global,
+        scope: &Scope,
+        node: &Node,
+        steps: &[Move],
+    ) -> Result<usize, ScopeError> {
+        let mut trial = match Trial::begin(alloc, scope, &node.path, node.failure)? {
+            Ok(trial) => trial,
+            Err(broken) => {
+                self.refuse(alloc, broken, &node.path)?;
+                return Ok(steps.len());
+            }
+        };
+        let at = match trial.until_done(alloc, scope, steps)? {
+            Ok(at) => at,
+            Err(broken) => {
+                self.refuse(alloc, broken, &node.path)?;
+                return Ok(steps.len());
+            }
+        };
+        let Some(step) = steps.get(at) else {
+            self.settle(alloc, scope, node, trial)?;
+            return Ok(steps.len());
+        };
+        self.lengthen(alloc, scope, node, trial, *step)?;
+        Ok(at.saturating_add(1))
+    }
+
     // A sequence with each call more. No root past those of the scope is begun.
     fn expand(&mut self, alloc: Global, scope: &Scope, node: &Node) -> Result<(), ScopeError> {
-        for step in MOVES.iter() {
-            if step.1 != Ask::Rotate || node.roots < ROOTS {
-                self.lengthen(alloc, scope, node, *step)?;
+        if node.roots < ROOTS {
+            self.probe(alloc, scope, node, ROTATION)?;
+        }
+        let mut rest = MOVES;
+        for _ in 0..MOVES.len() {
+            let made = self.probe(alloc, scope, node, rest)?;
+            if made >= rest.len() {
+                return Ok(());
             }
+            let (_, left) = rest.split_at(made);
+            rest = left;
         }
         Ok(())
     }
@@ -138,25 +245,28 @@ pub fn explore(
 ) -> Result<Found, ScopeError> {
     let mut search = Search {
         seen: BTreeMap::new(alloc),
+        judged: BTreeMap::new(alloc),
         next: Vec::new(alloc),
-        sequences: 0,
+        runs: 0,
         broken: None,
         path: Vec::new(alloc),
     };
-    search.attempt(alloc, scope, start, NO_FAILURE)?;
+    search.attempt(alloc, scope, start.to_vec(alloc)?, NO_FAILURE)?;
     for _ in 0..depth {
         search.deepen(alloc, scope)?;
     }
     let Search {
         seen,
-        sequences,
+        judged,
+        next: _,
+        runs,
         broken,
         path,
-        ..
     } = search;
     Ok(Found {
         states: seen.len() as u64,
-        sequences,
+        stores: judged.len() as u64,
+        runs,
         broken,
         path,
     })

@@ -6,10 +6,9 @@ use lr_manifest::CHUNK;
 use lr_origin::{Origin, OriginError, OriginFailed, Put};
 use std::alloc::{AllocError, Global};
 use std::collections::BTreeMap;
-use std::ops::Bound;
 
 /// The call that fails, counted from 1, or 0 for none, and whether it has its effect.
-#[derive(Clone, Copy, Debug, PartialEq, Eq)]
+#[derive(Clone, Copy)]
 pub struct Failure {
     pub at: u64,
     pub done: bool,
@@ -69,6 +68,24 @@ impl ScopeStore {
         self.bodies.get(key)
     }
 
+    /// The store, which fails no more.
+    pub fn mended(self) -> ScopeStore {
+        ScopeStore {
+            failure: Failure { at: 0, done: false },
+            ..self
+        }
+    }
+
+    /// What is kept of all bodies, each after its key.
+    pub fn contents(&self, alloc: Global) -> Result<Vec<u8>, AllocError> {
+        let mut contents = Vec::new(alloc);
+        for (key, body) in self.bodies.iter() {
+            contents.extend_from_slice(key)?;
+            contents.extend_from_slice(body)?;
+        }
+        Ok(contents)
+    }
+
     // Counts a call. Whether it is the one that fails.
     fn fails(&mut self) -> bool
         ensures { self.new.faults ≡ self.old.faults }
@@ -84,7 +101,7 @@ impl ScopeStore {
         self.faults = self.faults.saturating_add(1);
     }
 
-    fn store(&mut self, alloc: Global, key: &[u8], body: &[u8]) -> Result<Put, OriginError>
+    fn store(&mut self, alloc: Global, key: &[u8], body: &[u8]) -> Result<Put, AllocError>
         ensures { self.new.faults ≡ self.old.faults }
     {
         if self.bodies.get(key).is_some() {
@@ -117,7 +134,7 @@ impl Origin for ScopeStore {
 
     fn put(&mut self, alloc: Global, key: &[u8], body: &[u8]) -> Result<Put, OriginError> {
         if !self.fails() {
-            return self.store(alloc, key, body);
+            return Ok(self.store(alloc, key, body)?);
         }
         if self.failure.done {
             let _ = self.store(alloc, key, body);
