@@ -77,9 +77,7 @@ pub struct KeySet {
 
 impl KeySet {
     pub fn new() -> KeySet {
-        KeySet {
-            has: [false; KEYS],
-        }
+        KeySet { has: [false; KEYS] }
     }
 
     pub fn has(&self, at: usize) -> bool {

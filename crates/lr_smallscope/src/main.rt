@@ -78,9 +78,7 @@ fn search_from(rt: &HostRuntime, name: &str, start: &[Move]) -> Result<bool, Sco
     let Some(broken) = found.broken else {
         println!(rt;
             "{name} states {} stores {} runs {}",
-            found.states,
-            found.stores,
-            found.runs
+            found.states, found.stores, found.runs
         )?;
         return Ok(true);
     };

@@ -236,7 +236,10 @@ impl Record {
                 },
             )?,
             DepotReply::Moving {
-                session, from, to, ..
+                session,
+                from,
+                to,
+                ..
             } => self.began(
                 asked,
                 Session {
@@ -250,10 +253,8 @@ impl Record {
             )?,
             DepotReply::Closed | DepotReply::Abandoned | DepotReply::Absent => self.ended(asked),
             DepotReply::Made { .. } | DepotReply::Moved { .. } => self.done(asked, true),
-            DepotReply::Kept
-            | DepotReply::Withdrawn
-            | DepotReply::Expired
-            | DepotReply::Deleted => self.done(asked, false),
+            DepotReply::Kept | DepotReply::Withdrawn | DepotReply::Expired | DepotReply::Deleted =>
+                self.done(asked, false),
             DepotReply::Reaped => self.sessions.retain(|session| session.caller != caller),
             DepotReply::There => {
                 if let Ask::Settle(at) = asked {

@@ -117,12 +117,7 @@ fn is_root_kept(store: &ScopeStore, root: u32) -> bool {
 }
 
 // The bytes of the manifest of an image in a root that stand before the sealed keys are those of its spelling.
-fn is_spelled(
-    alloc: Global,
-    body: &[u8],
-    image: Image,
-    root: u32,
-) -> Result<bool, ScopeError> {
+fn is_spelled(alloc: Global, body: &[u8], image: Image, root: u32) -> Result<bool, ScopeError> {
     for made in 1..=root {
         for number in 1..=8u64 {
             let wanted = spelling(alloc, image, made, number)?;
@@ -328,11 +323,7 @@ fn put_record(state: &mut Vec<u8>, record: &Record) -> Result<(), ScopeError> {
 }
 
 // The roots in which the images' manifests were made.
-fn put_origins(
-    state: &mut Vec<u8>,
-    scope: &Scope,
-    catalog: &Catalog,
-) -> Result<(), ScopeError> {
+fn put_origins(state: &mut Vec<u8>, scope: &Scope, catalog: &Catalog) -> Result<(), ScopeError> {
     for image in IMAGES.iter() {
         let name = scope.name(*image);
         for root in 1..=ROOTS {
@@ -449,11 +440,7 @@ impl Trial {
     }
 
     /// Ends the depot, and judges all that it leaves but the bodies in its store.
-    pub fn judge(
-        self,
-        alloc: Global,
-        scope: &Scope,
-    ) -> Result<Result<Left, Broken>, ScopeError> {
+    pub fn judge(self, alloc: Global, scope: &Scope) -> Result<Result<Left, Broken>, ScopeError> {
         let Trial { depot, record } = self;
         let (store, left, catalog) = depot.end();
         if let Some(broken) = broken_end(scope, &record, &store, &left, &catalog) {
@@ -473,6 +460,14 @@ impl Trial {
     }
 }
 
+// Whether a depot starts on the store, and sees just these keys.
+fn starts(alloc: Global, scope: &Scope, store: ScopeStore, keys: &KeySet) -> bool {
+    match Depot::start(alloc, store) {
+        Ok(depot) => view(scope, depot.catalog()) == *keys,
+        Err(_) => false,
+    }
+}
+
 /// Judges the bodies of a store, and starts a depot on it.
 pub fn judge_store(
     alloc: Global,
@@ -483,8 +478,9 @@ pub fn judge_store(
         return Ok(Some(broken));
     }
     let keys = held(&store);
-    match Depot::start(alloc, store.mended()) {
-        Ok(depot) if view(scope, depot.catalog()) == keys => Ok(None),
-        _ => Ok(Some(Broken::Start)),
+    if starts(alloc, scope, store.mended(), &keys) {
+        Ok(None)
+    } else {
+        Ok(Some(Broken::Start))
     }
 }
