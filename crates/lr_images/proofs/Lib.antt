@@ -1,0 +1,4 @@
+pub mod Calling
+pub mod Driving
+pub mod Creating
+pub mod Reading
