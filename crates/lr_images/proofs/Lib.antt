@@ -1,4 +1,5 @@
 pub mod Calling
 pub mod Driving
-pub mod Creating
-pub mod Reading
+pub mod Creations
+pub mod Readings
+pub mod Filled

@@ -1,5 +1,5 @@
 -- A creation driven over a depot by caller 0: the depot's log is what the creation stands for.
-use Rattle.std.specs.Prelude.{◌≡◌, ◌≤◌, ℕ, List, [], ◌∷◌, ◌++◌, map, ⊤}
+use Rattle.std.specs.Prelude.{◌≡◌, ◌≤◌, ◌+◌, ◌%◌, ℕ, length, List, [], ◌∷◌, ◌++◌, map, ⊤}
 use Rattle.std.specs.List.{AllByRecursion, flat_map}
 use Rattle.lr_spec.specs.Rose.{Rose}
 use Rattle.lr_manifest.specs.Manifest.{itself}
@@ -84,3 +84,8 @@ MayEnd (ended e) end = e ≡ end
 -- pieces, joined
 abbrev pub joined : List (List ℕ) → List ℕ
 joined pieces = flat_map itself pieces
+
+-- Pieces that may come after so many bytes, each but the last a whole chunk.
+abbrev pub ArePieces : ℕ → List (List ℕ) → Type 0
+ArePieces len [] = ⊤
+ArePieces len (p ∷ pieces) = (len % 524288 ≡ 0) × (1 ≤ length p) × (length p ≤ 524288) × ArePieces (len + length p) pieces

@@ -1,4 +1,5 @@
 //! What a creation answers.
+ghost use Rattle.std.specs.Prelude.{◌≡◌};
 ghost use Rattle.lr_images.specs.Created.{IsAnswer};
 ghost use Rattle.lr_creator.specs.Seen.{seen_end};
 
@@ -22,6 +23,7 @@ pub enum Created {
 
 /// The answer of a creation that was not stopped for its source.
 pub(crate) fn answer_of(end: CreateEnd) -> Created
+    ensures unread { result ≡ Created.ReadFault → ⊥ }
     ensures answer { IsAnswer result (seen_end end) }
 {
     match end {

@@ -1,5 +1,5 @@
 //! The creation of an image from a source.
-ghost use Rattle.std.specs.Prelude.{◌≡◌, ◌≤◌, ◌+◌, ◌%◌, ℕ, List, length, true, Option, Some, None, MatchOption};
+ghost use Rattle.std.specs.Prelude.{◌≡◌, ◌≤◌, ◌+◌, ◌%◌, ◌++◌, ℕ, List, length, true, Option, Some, None, MatchOption};
 ghost use Rattle.lr_spec.specs.Rose.{Rose};
 ghost use Rattle.lr_io.specs.Streams.{TakesAll};
 ghost use Rattle.lr_depot.specs.Depot.{Seen};
@@ -28,6 +28,7 @@ fn finish<O: Origin>(
     requires whole { raw_len_of machine.old.need % 524288 ≡ 0 }
     requires most { length plain.now ≤ 524288 }
     requires within { raw_len_of machine.old.need + length plain.now ≤ 67108864 }
+    ensures unread { result ≡ Created.ReadFault → ⊥ }
     ensures created { (base : Seen O) (before now left : Option (List ℕ)) → IsUnderWay O.faults base before machine.old (raw_len_of machine.old.need) depot.old now → TakesAll now plain.now left → IsCreation O.faults base before machine.old.image machine.old.tenant result depot.new left }
 {
     if plain.is_empty() {
@@ -51,7 +52,7 @@ fn turn<O: Origin, I: Source>(
     requires given { raw_len_of machine.old.need ≡ len }
     requires whole { len % 524288 ≡ 0 }
     requires within { len ≤ 67108864 }
-    ensures same { IsSame machine.old machine.new }
+    ensures same { result ≡ None → IsSame machine.old machine.new }
     ensures wants { result ≡ None → is_wanting machine.new.need ≡ true }
     ensures given { result ≡ None → raw_len_of machine.new.need ≡ len + 524288 }
     ensures within { result ≡ None → len + 524288 ≤ 67108864 }

@@ -10,6 +10,8 @@ mod creating;
 mod drive;
 mod pieces;
 mod reading;
+#[cfg(test)]
+mod tests;
 
 pub use created::Created;
 pub use creating::create;

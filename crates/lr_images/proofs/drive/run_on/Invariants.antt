@@ -10,7 +10,7 @@ invariant-loop-end g l =
     (l.machine.ready ≡ true) × IsSame l.initial.machine l.machine
     × ((n : ℕ) → HasGiven l.initial.machine.need n → HasGiven l.machine.need n)
     × ((end : Ending) → MayEnd l.machine.need end → MayEnd l.initial.machine.need end)
-    × ((base : Seen g.O) (given : List Input) → Drives g.O.Origin.faults base l.initial.machine given l.initial.depot → Drives g.O.Origin.faults base l.machine given l.depot)
+    × ((base : Seen g.row.O.Denot) (given : List Input) → Drives g.O.Origin.faults base l.initial.machine given l.initial.depot → Drives g.O.Origin.faults base l.machine given l.depot)
 
 abbrev pub decreases-loop-end : goal.decreases-loop-end
 decreases-loop-end g l = left_of l.machine.need

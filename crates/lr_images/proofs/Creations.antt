@@ -16,7 +16,7 @@ use Rattle.lr_creator.specs.Progress.{Progress, Stands, start, beginning}
 use Rattle.lr_creator.specs.Seen.{IsSame}
 use Rattle.lr_images.specs.declared.created.Created.{Created}
 use Rattle.lr_images.specs.declared.created.Created.TheVariants.{Root, Refused, ReadFault, TooLong, OutOfMemory}
-use Rattle.lr_images.specs.Drive.{Drives, Ended, IsFaultEnd, IsFaultNeed, IsEarly, IsUnstopped, MayEnd, joined}
+use Rattle.lr_images.specs.Drive.{Drives, Ended, IsFaultEnd, IsFaultNeed, IsEarly, IsUnstopped, MayEnd, HasGiven, joined}
 use Rattle.lr_images.specs.Created.{IsAnswer, HasRead, IsStoreFault, IsCreation, IsUnderWay}
 use Rattle.lr_images.proofs.Calling.{calls_none}
 
@@ -169,3 +169,42 @@ refused_at_first faults base d p image tenant left created end e answer may h =
     let early : IsEarly end = subst (λ (q : Progress). MayEnd q.need end) e may in
     subst (λ (q : Progress). IsCreation faults base left q.image q.tenant created d left) e
     (creation_of faults base d p left left created end [] [] (last ∷ []) refl (early_read created end left left [] answer early (omega arith) (takes_none left)) answer h)
+
+pub creation_begun : {O : Type 0} (faults : O → ℕ) (base d : Seen O) (p q : Progress) (image tenant : List ℕ) (before left : Option (List ℕ)) (created : Created) → p ≡ start image tenant → IsSame p q
+    → IsCreation faults base before q.image q.tenant created d left → IsCreation faults base before image tenant created d left
+creation_begun faults base d p q image tenant before left created e same h =
+    subst (λ (r : Progress). IsCreation faults base before r.image r.tenant created d left) e (creation_same faults base d p q before left created same h)
+
+pub nil_of : (xs : List ℕ) → length xs ≡ 0 → xs ≡ []
+nil_of [] e = refl
+nil_of (x ∷ xs) e = absurd (omega (arith, e))
+
+pub begun_given : (p : Progress) (image tenant : List ℕ) → p ≡ start image tenant → HasGiven p.need 0
+begun_given p image tenant e = subst (λ (q : Progress). HasGiven q.need 0) (sym e) refl
+
+some_of : (x y : Created) → Some x ≡ Some y → x ≡ y
+some_of x y e = cc
+
+pub never_read : (created : Created) (P : Type 0) → (created ≡ ReadFault → ⊥) → Some created ≡ Some ReadFault → P
+never_read created P never e = absurd (never (some_of created ReadFault e))
+
+-- a piece of a vector, by the slice that is given
+pub whole_more : {O : Type 0} (faults : O → ℕ) (base old d : Seen O) (p q : Progress) (before now left : Option (List ℕ)) (len : ℕ) (items plain : List ℕ)
+    → plain ≡ items → length items ≡ 524288 → Takes now items left → (u : IsUnderWay faults base before p len old now) → Drives faults base q (map piece u.pieces ++ piece plain ∷ []) d
+    → IsUnderWay faults base before q (len + 524288) d left
+whole_more faults base old d p q before now left len items plain same size took u h =
+    subst (λ n. IsUnderWay faults base before q (len + n) d left) (ap length same ∙ size)
+    (under_way_more faults base old d p q before now left len plain (subst (λ (l : List ℕ). Takes now l left) (sym same) took) u h)
+
+pub whole_early : {O : Type 0} (faults : O → ℕ) (base old d : Seen O) (p : Progress) (before now left : Option (List ℕ)) (len : ℕ) (created : Created) (end : Ending) (items plain : List ℕ)
+    → plain ≡ items → length items ≡ 524288 → len + 524288 ≤ 67108864 → Takes now items left → IsAnswer created end → IsEarly end → (u : IsUnderWay faults base before p len old now)
+    → Ended faults base p (map piece u.pieces ++ piece plain ∷ []) d end → IsCreation faults base before p.image p.tenant created d left
+whole_early faults base old d p before now left len created end items plain same size within took answer early u h =
+    let long : length plain ≡ 524288 = ap length same ∙ size in
+    finish_early faults base old d p before now left len created end plain (omega (arith, long, within)) answer early (subst (λ (l : List ℕ). Takes now l left) (sym same) took) u h
+
+pub last_piece : (now left : Option (List ℕ)) (items plain : List ℕ) → plain ≡ items → TakesAll now items left → TakesAll now plain left
+last_piece now left items plain same all = subst (λ (l : List ℕ). TakesAll now l left) (sym same) all
+
+pub under_way_at : {O : Type 0} (faults : O → ℕ) (base d : Seen O) (p : Progress) (before now : Option (List ℕ)) (len raw : ℕ) → raw ≡ len → IsUnderWay faults base before p len d now → IsUnderWay faults base before p raw d now
+under_way_at faults base d p before now len raw e u = subst (λ n. IsUnderWay faults base before p n d now) (sym e) u
