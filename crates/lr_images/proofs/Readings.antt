@@ -48,11 +48,14 @@ use Rattle.lr_walk.proofs.Depot.{answers_by_table}
 use Rattle.lr_images.specs.declared.reading.CatError.{CatError}
 use Rattle.lr_images.specs.declared.reading.CatError.TheVariants as error
 use Rattle.lr_images.specs.Drive.{Calls}
-use Rattle.lr_images.specs.Cat.{Ending, with_bytes, with_reply, with_wrong_key, with_memory, Cats, Fetches, ReadsLease, Closes, error_end, end_of, texts, bodies, IsChunkOf, AreChunksOf, IsFetched, AreBodies, Denotes, IsReadOf, IsRead, IsStoreAnswer, IsLeaseAnswer, IsRefusal, IsStoreFault, Keeps, HasTexts, HasFetched}
+use Rattle.lr_images.specs.Cat.{Ending, with_bytes, with_reply, with_wrong_key, with_memory, Cats, Fetches, ReadsLease, Closes, error_end, end_of, texts, bodies, IsChunkOf, AreChunksOf, IsFetched, AreBodies, Denotes, IsReadOf, IsRead, IsStoreAnswer, IsLeaseAnswer, IsUnsealed, IsRefusal, IsStoreFault, Keeps, HasTexts, HasFetched}
 use Rattle.lr_images.proofs.Calling.{Logs, calls_none, calls_one, calls_on, rose_later, rose_before}
 
 some_of : {A : Type 0} (x y : A) → Some x ≡ Some y → x ≡ y
 some_of x y e = cc
+
+some_none : {A : Type 0} (x : A) → Some x ≡ None → ⊥
+some_none x e = cc
 
 -- ---- a fetch
 
@@ -80,15 +83,15 @@ pub fetch_keeps : {O : Type 0} (objects : O → Option Objects) (old new : Seen 
     → Told (objects old.origin) (λ m. StoreStep (state old.start old.log) 0 (Fetch lease index) reply m (objects new.origin)) → Keeps objects old new
 fetch_keeps objects old new lease index reply start logs stored =
     record {
-      state = fetch_state old.start new.start lease index reply old.log new.log start logs;
-      objects = λ m e. fetch_store (state old.start old.log) 0 lease index reply m (objects new.origin) (stored m e);
+      same_state = fetch_state old.start new.start lease index reply old.log new.log start logs;
+      same_objects = λ m e. fetch_store (state old.start old.log) 0 lease index reply m (objects new.origin) (stored m e);
     }
 
 pub keeps_none : {O : Type 0} (objects : O → Option Objects) (d : Seen O) → Keeps objects d d
-keeps_none objects d = record { state = refl; objects = λ m e. e }
+keeps_none objects d = record { same_state = refl; same_objects = λ m e. e }
 
 pub keeps_on : {O : Type 0} (objects : O → Option Objects) (a b c : Seen O) → Keeps objects a b → Keeps objects b c → Keeps objects a c
-keeps_on objects a b c g h = record { state = h.state ∙ g.state; objects = λ m e. h.objects m (g.objects m e) }
+keeps_on objects a b c g h = record { same_state = h.same_state ∙ g.same_state; same_objects = λ m e. h.same_objects m (g.same_objects m e) }
 
 chunk_name : (r q : ℕ) (x y : List ℕ) → kind.Chunk r x ≡ kind.Chunk q y → x ≡ y
 chunk_name r q x y e = cc
@@ -155,7 +158,7 @@ none_past (x ∷ xs) (suc i) h e = none_past xs i (omega (arith, h)) e
 
 pub fetch_answer : (s : State) (lease index : ℕ) (reply : DepotReply) → DepotStep s 0 (Fetch lease index) reply → (IsGiven reply → ⊥)
     → (image : List ℕ) (m : ManifestFields) → map.get s.desk.leases lease ≡ Some (image, m) → index < length m.names → IsStoreAnswer (error.Refused reply)
-fetch_answer s lease index NoLease d n image m out less = let both : Some (image, m) ≡ None = sym out ∙ d in absurd (cc)
+fetch_answer s lease index NoLease d n image m out less = absurd (some_none {A = List ℕ × ManifestFields} (image, m) (sym out ∙ d))
 fetch_answer s lease index NoChunk (other, p, there, none) n image m out less =
     let same : ◌≡◌ {A = List ℕ × ManifestFields} (other, p) (image, m) = some_of {A = List ℕ × ManifestFields} (other, p) (image, m) (sym there ∙ out) in
     absurd (none_past m.names index less (subst (λ (q : List ℕ × ManifestFields). slice_get q.1.names index ≡ None) same none))
@@ -211,7 +214,7 @@ texts_on : {O : Type 0} (objects : O → Option Objects) (old now : Seen O) (lea
     → IsFetched (objects now.origin) (state now.start now.log) lease index chunk → HasTexts (objects old.origin) (state old.start old.log) lease keys (index + 1) after
 texts_on objects old now lease index keys key bytes after chunk keeps at h e f = λ image m out.
     let had = h image m out in
-    let here : map.get (state now.start now.log).desk.leases lease ≡ Some (image, m) = ap (λ (q : State). map.get q.desk.leases lease) keeps.state ∙ out in
+    let here : map.get (state now.start now.log).desk.leases lease ≡ Some (image, m) = ap (λ (q : State). map.get q.desk.leases lease) keeps.same_state ∙ out in
     let one = f image m here in
     let key_at : slice_get keys (length had.0) ≡ Some key = ap (slice_get keys) had.1 ∙ at in
     let name_at : slice_get m.names (length had.0) ≡ Some one.0 = ap (slice_get m.names) had.1 ∙ one.1 in
@@ -223,7 +226,7 @@ texts_on objects old now lease index keys key bytes after chunk keeps at h e f =
     )
   where
     moved : (image : List ℕ) (name : Name) → IsChunkOf (objects now.origin) (state now.start now.log).known.view image name chunk → IsChunkOf (objects old.origin) (state old.start old.log).known.view image name chunk
-    moved image name c = record { digest = c.digest; stored = λ m told home homed. c.stored m (keeps.objects m told) home (subst (λ (q : State). IsHome q.known.view image home) (sym keeps.state) homed) }
+    moved image name c = record { digest = c.digest; stored = λ m told home homed. c.stored m (keeps.same_objects m told) home (subst (λ (q : State). IsHome q.known.view image home) (sym keeps.same_state) homed) }
 
 pub fetched_more : {O : Type 0} (objects : O → Option Objects) (faults : O → ℕ) (old now next : Seen O) (lease index : ℕ) (keys : List (List ℕ)) (key : List ℕ) (bytes after : List ℕ) (own : List Step) (name chunk : List ℕ)
     → slice_get keys index ≡ Some key → Calls faults now next own → own ≡ step (fetches lease index) (fetched name) ∷ [] → Keeps objects now next → after ≡ bytes ++ chunk_text key chunk
@@ -257,7 +260,7 @@ fetched_until objects faults old now lease index keys bytes own end less ends h 
 
 pub out_now : {O : Type 0} (objects : O → Option Objects) (old now : Seen O) (lease : ℕ) (image : List ℕ) (m : ManifestFields) → Keeps objects old now → map.get (state old.start old.log).desk.leases lease ≡ Some (image, m)
     → map.get (state now.start now.log).desk.leases lease ≡ Some (image, m)
-out_now objects old now lease image m keeps out = ap (λ (q : State). map.get q.desk.leases lease) keeps.state ∙ out
+out_now objects old now lease image m keeps out = ap (λ (q : State). map.get q.desk.leases lease) keeps.same_state ∙ out
 
 -- ---- the keys
 
@@ -413,3 +416,84 @@ pub store_lease : (e : CatError) → IsStoreAnswer e → IsLeaseAnswer e
 store_lease (error.Refused reply) h = h
 store_lease error.Sealed h = tt
 store_lease error.OutOfMemory h = tt
+
+-- ---- by the answer
+
+pub if_ok : {A E : Type 0} (P Q : A → Type 0) (r : Result A E) → ((x : A) → P x → Q x) → IfOk r P → IfOk r Q
+if_ok P Q (Ok x) f p = f x p
+if_ok P Q (Err e) f p = p
+
+pub if_err : {A E : Type 0} (P Q : E → Type 0) (r : Result A E) → ((e : E) → P e → Q e) → IfErr r P → IfErr r Q
+if_err P Q (Ok x) f p = p
+if_err P Q (Err e) f p = f e p
+
+pub short_answer : (e : CatError) → e ≡ error.OutOfMemory → IsStoreAnswer e
+short_answer e is = subst IsStoreAnswer (sym is) tt
+
+pub short_fault : (e : CatError) (P : Type 0) → e ≡ error.OutOfMemory → IsStoreFault e → P
+short_fault e P is h = absurd (subst IsStoreFault is h)
+
+pub chunk_walk : {A O : Type 0} (faults : O → ℕ) (old new : Seen O) (lease index : ℕ) (name : List ℕ) (own : List Step) (r : Result A CatError) → own ≡ step (fetches lease index) (fetched name) ∷ [] → Calls faults old new own
+    → IfErr r (λ e. e ≡ error.OutOfMemory)
+    → (own : List Step) × Calls faults old new own × MatchResult r (λ _. (name : List ℕ) × (own ≡ step (fetches lease index) (fetched name) ∷ [])) (λ e. (left : ℕ) → Fetches lease (suc left) index own (error_end e))
+chunk_walk faults old new lease index name own (Ok x) is calls short = (own, calls, (name, is))
+chunk_walk faults old new lease index name own (Err e) is calls short =
+    (own, calls, λ left. subst (λ (q : CatError). Fetches lease (suc left) index own (error_end q)) (sym short) (fetch_short lease index name own is left))
+
+pub unsealed_walk : (tenant : List ℕ) (lease : ℕ) (m : ManifestFields) (e : CatError) → IsUnsealed e m tenant → ReadsLease tenant lease m [] (error_end e)
+unsealed_walk tenant lease m (error.Refused reply) h = absurd h
+unsealed_walk tenant lease m error.Sealed h = inr (inl (h, (refl, refl)))
+unsealed_walk tenant lease m error.OutOfMemory h = inr (inr (refl, refl))
+
+pub unsealed_answer : (m : ManifestFields) (tenant : List ℕ) (e : CatError) → IsUnsealed e m tenant → IsLeaseAnswer e
+unsealed_answer m tenant (error.Refused reply) h = absurd h
+unsealed_answer m tenant error.Sealed h = tt
+unsealed_answer m tenant error.OutOfMemory h = tt
+
+pub unsealed_fault : (m : ManifestFields) (tenant : List ℕ) (e : CatError) (P : Type 0) → IsUnsealed e m tenant → IsStoreFault e → P
+unsealed_fault m tenant (error.Refused reply) P h f = absurd h
+unsealed_fault m tenant error.Sealed P h f = absurd f
+unsealed_fault m tenant error.OutOfMemory P h f = absurd f
+
+pub reads_keys : (tenant : List ℕ) (lease count : ℕ) (m : ManifestFields) (own : List Step) (end : Ending) → HasTag m tenant → count ≡ length m.names → Fetches lease count 0 own end → ReadsLease tenant lease m own end
+reads_keys tenant lease count m own end tag is f = inl (tag, subst (λ n. Fetches lease n 0 own end) is f)
+
+-- ---- an image that was leased
+
+module _ {O : Type 0} (objects : O → Option Objects) (faults : O → ℕ) (old mid : Seen O) (image tenant : List ℕ) (lease : ℕ) (manifest : Arc ManifestFields Global)
+    (start : mid.start ≡ old.start) (logs : Logs true (OpenImage image) (Opened lease manifest) old.log mid.log) (step_is : DepotStep (state old.start old.log) 0 (OpenImage image) (Opened lease manifest)) where
+  now_open : state mid.start mid.log ≡ state_opened (state old.start old.log) image (arc_value manifest)
+  now_open = opened_state old.start mid.start image lease manifest old.log mid.log start logs
+
+  pub is_leased : map.get (state mid.start mid.log).desk.leases lease ≡ Some (image, arc_value manifest)
+  is_leased = leased (state old.start old.log) (state mid.start mid.log) image (arc_value manifest) lease now_open step_is.2
+
+  pub cat_answer : {A : Type 0} (man : ManifestFields) (r : Result A CatError) → man ≡ arc_value manifest
+      → IfErr r (λ e. (image : List ℕ) → map.get (state mid.start mid.log).desk.leases lease ≡ Some (image, man) → IsLeaseAnswer e) → IfErr r (IsRefusal (state old.start old.log).known.view image)
+  cat_answer {A} man r e h =
+      if_err {A = A} {E = CatError} _ (IsRefusal (state old.start old.log).known.view image) r
+      (λ error f. lease_refusal (state old.start old.log).known.view image error (f image (is_leased ∙ ap (λ (q : ManifestFields). Some (image, q)) (sym e)))) h
+
+  module _ (never : faults old.origin ≤ faults mid.origin) (stays : Told (objects old.origin) (λ o. objects mid.origin ≡ Some o)) where
+    opened_walk : {A : Type 0} (items : A → List ℕ) (new : Seen O) (r : Result A CatError)
+        → ((own : List Step) × Calls faults mid new own × Then (ReadsLease tenant lease (arc_value manifest)) (Closes lease) own (end_of r))
+        → IfOk r (λ v. (image : List ℕ) → map.get (state mid.start mid.log).desk.leases lease ≡ Some (image, arc_value manifest) → IsReadOf (objects mid.origin) (state mid.start mid.log).known.view image tenant (arc_value manifest) (items v))
+        → (steps : List Step) × Calls faults old new steps × Cats image tenant steps (end_of r) × IfOk r (λ v. IsRead objects old image tenant steps (items v))
+    opened_walk items new r (own, calls, walk) read = (
+      step (opens image) (opened lease (arc_value manifest)) ∷ own,
+      calls_on faults old mid new (step (opens image) (opened lease (arc_value manifest)) ∷ []) own (calls_one faults old mid (OpenImage image) (Opened lease manifest) start logs never) calls,
+      open_goes_on image tenant lease (arc_value manifest) own (end_of r) walk,
+      if_ok _ _ r
+      (λ v f.
+          is_read objects old mid image tenant lease (arc_value manifest) own (items v) (step_is.0, step_is.1) stays (same_view (state old.start old.log) (state mid.start mid.log) image (arc_value manifest) now_open)
+          (f image is_leased))
+      read,
+    )
+
+    pub cat_walk : {A : Type 0} (items : A → List ℕ) (new : Seen O) (man : ManifestFields) (r : Result A CatError) → man ≡ arc_value manifest
+        → ((own : List Step) × Calls faults mid new own × Then (ReadsLease tenant lease man) (Closes lease) own (end_of r))
+        → IfOk r (λ v. (image : List ℕ) → map.get (state mid.start mid.log).desk.leases lease ≡ Some (image, man) → IsReadOf (objects mid.origin) (state mid.start mid.log).known.view image tenant man (items v))
+        → (steps : List Step) × Calls faults old new steps × Cats image tenant steps (end_of r) × IfOk r (λ v. IsRead objects old image tenant steps (items v))
+    cat_walk items new man r e walk read =
+        opened_walk items new r (subst (λ (q : ManifestFields). (own : List Step) × Calls faults mid new own × Then (ReadsLease tenant lease q) (Closes lease) own (end_of r)) e walk)
+        (subst (λ (q : ManifestFields). IfOk r (λ v. (image : List ℕ) → map.get (state mid.start mid.log).desk.leases lease ≡ Some (image, q) → IsReadOf (objects mid.origin) (state mid.start mid.log).known.view image tenant q (items v))) e read)

@@ -133,6 +133,12 @@ IsStoreAnswer (Refused (Spoiled k)) = ⊤
 IsStoreAnswer OutOfMemory = ⊤
 IsStoreAnswer e = ⊥
 
+-- the tag is wrong, or no memory was found
+abbrev pub IsUnsealed : CatError → ManifestFields → List ℕ → Type 0
+IsUnsealed (Refused reply) m tenant = ⊥
+IsUnsealed Sealed m tenant = HasTag m tenant → ⊥
+IsUnsealed OutOfMemory m tenant = ⊤
+
 -- .. or the tenant's key is wrong
 abbrev pub IsLeaseAnswer : CatError → Type 0
 IsLeaseAnswer Sealed = ⊤
@@ -150,8 +156,8 @@ IsStoreFault e = ⊥
 
 -- the depot's state and its store's objects stay
 pub record Keeps {O : Type 0} (objects : O → Option Objects) (old new : Seen O) : Type 0 where
-  pub state : state new.start new.log ≡ state old.start old.log
-  pub objects : Told (objects old.origin) (λ m. objects new.origin ≡ Some m)
+  pub same_state : state new.start new.log ≡ state old.start old.log
+  pub same_objects : Told (objects old.origin) (λ m. objects new.origin ≡ Some m)
 
 -- so many chunks of a leased image were fetched, and their plaintexts are the bytes
 abbrev pub HasTexts : Option Objects → State → ℕ → List (List ℕ) → ℕ → List ℕ → Type 0

@@ -1,5 +1,5 @@
 //! Reading an image back.
-ghost use Rattle.std.specs.Prelude.{◌≡◌, ◌≤◌, ◌<◌, ◌++◌, ◌∷◌, [], ℕ, suc, List, length, Some, IfOk, IfErr, MatchResult};
+ghost use Rattle.std.specs.Prelude.{◌≡◌, ◌≤◌, ◌<◌, ◌++◌, ◌∷◌, [], ℕ, suc, List, length, take, slice_get, Some, IfOk, IfErr, MatchResult};
 ghost use Rattle.std.specs.Arc.{arc_value};
 ghost use Rattle.std.specs.FinMap as map;
 ghost use Rattle.sha2.specs.Sha256.{sha256};
@@ -7,11 +7,12 @@ ghost use Rattle.lr_spec.specs.Rose.{Rose};
 ghost use Rattle.lr_spec.specs.Told.{Told};
 ghost use Rattle.lr_manifest.specs.Manifest.{ManifestFields};
 ghost use Rattle.lr_convergent.specs.Sealed.{chunk_text};
+ghost use Rattle.lr_seal.specs.Table.{HasTag, key_list};
 ghost use Rattle.lr_depot.specs.Depot.{state};
 ghost use Rattle.lr_walk.specs.Walk.{Then};
 ghost use Rattle.lr_walk.specs.Depot.{Step, step, fetches, fetched};
 ghost use Rattle.lr_images.specs.Drive.{Calls};
-ghost use Rattle.lr_images.specs.Cat.{Cats, ReadsLease, Closes, Fetches, end_of, error_end, IsFetched, IsRead, IsReadOf, IsRefusal, IsStoreAnswer, IsLeaseAnswer, IsStoreFault, Keeps, HasTexts};
+ghost use Rattle.lr_images.specs.Cat.{Cats, ReadsLease, Closes, Fetches, end_of, error_end, IsFetched, IsRead, IsReadOf, IsRefusal, IsStoreAnswer, IsLeaseAnswer, IsUnsealed, IsStoreFault, Keeps, HasTexts};
 ghost use Rattle.lr_images.specs.declared.reading.CatError.TheVariants.{OutOfMemory as NoMemory};
 
 use lr_convergent::Piece;
@@ -72,14 +73,15 @@ fn fetch<O: Origin>(
 }
 
 // Appends the plaintext of a chunk.
-fn decrypt(
+fn append(
     alloc: Global,
     index: u32,
     chunk: Arc<Chunk>,
     key: &ChunkKey,
     bytes: &mut Vec<u8>,
-) -> Result<(), OutOfMemory>
-    ensures { IfOk result (λ _. bytes.new.items ≡ bytes.old.items ++ chunk_text key.now.bytes (arc_value chunk)) }
+) -> Result<(), CatError>
+    ensures added { IfOk result (λ _. bytes.new.items ≡ bytes.old.items ++ chunk_text key.now.bytes (arc_value chunk)) }
+    ensures memory { IfErr result (λ e. e ≡ NoMemory) }
 {
     let piece = Piece::make(alloc, index, chunk, key)?;
     bytes.extend_from_slice(piece.plain())?;
@@ -101,37 +103,57 @@ fn add_chunk<O: Origin>(
     ensures answer { IfErr result (λ e. (image : List ℕ) (m : ManifestFields) → map.get (state depot.old.start depot.old.log).desk.leases lease ≡ Some (image, m) → index < length m.names → IsStoreAnswer e) }
     ensures fault { IfErr result (λ e. IsStoreFault e → Rose (O.faults depot.old.origin) (O.faults depot.new.origin)) }
 {
-    let chunk = fetch(alloc, depot, lease, index)?;
-    match decrypt(alloc, index, chunk, key, bytes) {
-        Ok(()) => Ok(()),
-        Err(_) => Err(CatError::OutOfMemory),
+    match fetch(alloc, depot, lease, index) {
+        Ok(chunk) => append(alloc, index, chunk, key, bytes),
+        Err(error) => Err(error),
     }
 }
 
-// Fetches the chunks of all keys, ascending: their plaintexts.
+// The key at an index.
+fn key_at(keys: &KeyTable, index: u32) -> &ChunkKey
+    requires { index < length keys.now }
+    ensures { slice_get keys.now index ≡ Some result.now.bytes }
+{
+    keys.get(index).unwrap()
+}
+
+// Fetches the chunks of all keys, ascending: their plaintexts, cut to a length.
 fn fetch_all<O: Origin>(
     alloc: Global,
     depot: &mut Depot<O>,
     lease: u64,
     keys: &KeyTable,
+    count: u32,
+    len: usize,
 ) -> Result<Vec<u8>, CatError>
-    requires few { length keys.now ≤ 20480 }
+    requires count { count ≡ length keys.now }
     ensures walk { (own : List Step) × Calls O.faults depot.old depot.new own × Fetches lease (length keys.now) 0 own (end_of result) }
     ensures keeps { Keeps O.objects depot.old depot.new }
-    ensures texts { IfOk result (λ v. HasTexts (O.objects depot.old.origin) (state depot.old.start depot.old.log) lease keys.now (length keys.now) v.items) }
+    ensures texts { IfOk result (λ v. (text : List ℕ) × HasTexts (O.objects depot.old.origin) (state depot.old.start depot.old.log) lease keys.now (length keys.now) text × (v.items ≡ take len text)) }
     ensures answer { IfErr result (λ e. (image : List ℕ) (m : ManifestFields) → map.get (state depot.old.start depot.old.log).desk.leases lease ≡ Some (image, m) → length keys.now ≡ length m.names → IsStoreAnswer e) }
     ensures fault { IfErr result (λ e. IsStoreFault e → Rose (O.faults depot.old.origin) (O.faults depot.new.origin)) }
 {
     let mut bytes = Vec::new(alloc);
-    let count = keys.count() as u32;
     for index in 0..count {
-        let key = keys.get(index).unwrap();
+        let key = key_at(keys, index);
         match add_chunk(alloc, depot, lease, index, key, &mut bytes) {
             Ok(()) => {}
             Err(error) => return Err(error),
         }
     }
+    bytes.truncate(len);
     Ok(bytes)
+}
+
+// The keys of a manifest.
+fn unseal(alloc: Global, manifest: &Manifest, tenant: &TenantKey) -> Result<KeyTable, CatError>
+    ensures { MatchResult result (λ t. HasTag manifest.now tenant.now.bytes × (t ≡ key_list manifest.now tenant.now.bytes)) (λ e. IsUnsealed e manifest.now tenant.now.bytes) }
+{
+    match KeyTable::unseal(alloc, manifest, tenant) {
+        Ok(keys) => Ok(keys),
+        Err(UnsealError::Sealed) => Err(CatError::Sealed),
+        Err(UnsealError::OutOfMemory) => Err(CatError::OutOfMemory),
+    }
 }
 
 // Reads a leased image: its bytes.
@@ -149,20 +171,11 @@ fn read_leased<O: Origin>(
     ensures fault { IfErr result (λ e. IsStoreFault e → Rose (O.faults depot.old.origin) (O.faults depot.new.origin)) }
 {
     is_denoted_by_tag();
+    let count = manifest.names().len() as u32;
     let len = manifest.raw_len() as usize;
-    match KeyTable::unseal(alloc, manifest, tenant) {
-        Ok(keys) => {
-            let _names = manifest.names();
-            match fetch_all(alloc, depot, lease, &keys) {
-                Ok(mut bytes) => {
-                    bytes.truncate(len);
-                    Ok(bytes)
-                }
-                Err(error) => Err(error),
-            }
-        }
-        Err(UnsealError::Sealed) => Err(CatError::Sealed),
-        Err(UnsealError::OutOfMemory) => Err(CatError::OutOfMemory),
+    match unseal(alloc, manifest, tenant) {
+        Ok(keys) => fetch_all(alloc, depot, lease, &keys, count, len),
+        Err(error) => Err(error),
     }
 }
 
