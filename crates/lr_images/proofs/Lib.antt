@@ -3,3 +3,4 @@ pub mod Driving
 pub mod Creations
 pub mod Readings
 pub mod Filled
+pub mod Made

@@ -1,3 +1,4 @@
 pub mod Drive
 pub mod Created
 pub mod Cat
+pub mod Made

@@ -8,6 +8,7 @@
 mod created;
 mod creating;
 mod drive;
+mod laws;
 mod pieces;
 mod reading;
 #[cfg(test)]
@@ -15,4 +16,5 @@ mod tests;
 
 pub use created::Created;
 pub use creating::create;
+pub use laws::created_images_denote;
 pub use reading::{CatError, cat};

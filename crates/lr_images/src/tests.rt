@@ -17,9 +17,9 @@ const LENGTHS: &[usize] = &[
 ];
 
 fn bytes_of(alloc: Global, len: usize) -> Result<Vec<u8>, Fail> {
-    let mut bytes = Vec::with_capacity(alloc, len)?;
-    for i in 0..len {
-        bytes.push((i % 251) as u8)?;
+    let mut bytes = vec![in alloc; 7u8; len]?;
+    for (i, byte) in bytes.iter_mut().enumerate() {
+        *byte = (i % 251) as u8;
     }
     Ok(bytes)
 }
@@ -40,6 +40,17 @@ fn web() -> Result<ImageName, Fail> {
     }
 }
 
+// A reply of the depot in short.
+fn word_of(reply: &DepotReply) -> &'static str {
+    match reply {
+        DepotReply::NoRoot => "no root",
+        DepotReply::NoImage => "no image",
+        DepotReply::Taken => "taken",
+        DepotReply::Fault(_) => "fault",
+        _ => "refused",
+    }
+}
+
 // What the creation of an image of so many bytes answers, where the source fails at some calls.
 fn created(
     alloc: Global,
@@ -48,13 +59,11 @@ fn created(
     fails: Vec<u64>,
 ) -> Result<&'static str, Fail> {
     let mut source = MemSource::new(bytes_of(alloc, len)?, fails);
-    Ok(match create(alloc, depot, &mut source, web()?, TENANT) {
+    let image = web()?;
+    Ok(match create(alloc, depot, &mut source, image, TENANT) {
         Created::Root(1) => "root 1",
-        Created::Root(_) => "root",
-        Created::Refused(DepotReply::NoRoot) => "no root",
-        Created::Refused(DepotReply::Taken) => "taken",
-        Created::Refused(DepotReply::Fault(_)) => "fault",
-        Created::Refused(_) => "refused",
+        Created::Root(_root) => "root",
+        Created::Refused(reply) => word_of(&reply),
         Created::ReadFault => "read fault",
         Created::TooLong => "too long",
         Created::OutOfMemory => "memory",
@@ -68,19 +77,26 @@ fn read_back(
     tenant: &TenantKey,
     len: usize,
 ) -> Result<&'static str, Fail> {
-    Ok(match cat(alloc, depot, web()?, tenant) {
+    let image = web()?;
+    let raw = bytes_of(alloc, len)?;
+    Ok(match cat(alloc, depot, image, tenant) {
         Ok(bytes) => {
-            if bytes.as_slice() == bytes_of(alloc, len)?.as_slice() {
-                return Ok("same");
+            if bytes.as_slice() == raw.as_slice() {
+                "same"
+            } else {
+                "other bytes"
             }
-            "other bytes"
         }
-        Err(CatError::Refused(DepotReply::NoImage)) => "no image",
-        Err(CatError::Refused(DepotReply::Fault(_))) => "fault",
-        Err(CatError::Refused(_)) => "refused",
-        Err(CatError::Sealed) => "sealed",
-        Err(CatError::OutOfMemory) => "memory",
+        Err(error) => error_word(&error),
     })
+}
+
+fn error_word(error: &CatError) -> &'static str {
+    match error {
+        CatError::Refused(reply) => word_of(reply),
+        CatError::Sealed => "sealed",
+        CatError::OutOfMemory => "memory",
+    }
 }
 
 #[test]
