@@ -32,7 +32,6 @@ left_if Nothing s e = refl
 left_if OutOfMemory s e = refl
 left_if reply s e = absurd (cc)
 
-
 all_append : (xs ys : List LogEntry) → AllByRecursion (λ e. e.caller ≡ 0) xs → AllByRecursion (λ e. e.caller ≡ 0) ys → AllByRecursion (λ e. e.caller ≡ 0) (xs ++ ys)
 all_append [] ys h k = k
 all_append (x ∷ xs) ys h k = (h.0, all_append xs ys h.1 k)

@@ -146,7 +146,7 @@ drives_same faults base d old new given same need h =
     record {
       steps = h.steps;
       stands = subst (λ (q : List ℕ × List ℕ). StandsFor (Creates q.0 q.1) (Rest q.1) new.need given h.steps) (λ i. (sym same.0 i, sym same.1 i))
-    (subst (λ q. StandsFor (Creates old.image old.tenant) (Rest old.tenant) q given h.steps) (sym need) h.stands);
+          (subst (λ q. StandsFor (Creates old.image old.tenant) (Rest old.tenant) q given h.steps) (sym need) h.stands);
       calls = h.calls;
       cause = λ f. h.cause (subst IsFaultNeed need f);
     }

@@ -78,5 +78,6 @@ are_kept salt strings body (n ∷ names) (p ∷ pieces) apart all bodies named =
   where
     here : (x : List ℕ) (xs : List (List ℕ)) → Contains (x ∷ xs) x
     here x xs = (0, omega arith, refl)
+
     there : (y x : List ℕ) (xs : List (List ℕ)) → Contains xs y → Contains (x ∷ xs) y
     there y x xs c = (suc c.0, omega (arith, c.1), c.2)

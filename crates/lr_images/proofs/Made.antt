@@ -163,10 +163,9 @@ last_made s e session root rootb number image fields call reply caller is d ente
     let value : arc_value two.0 ≡ fields = sym two.2 ∙ one.2 in
     let may : MayMake s session 0 at.0 root at.1 fields = subst (λ q. MayMake s session 0 at.0 root at.1 q) value at.2 in
     let sessions : ◌≡◌ {A = Session} (record { caller = 0; job = JobCreates at.0 root at.1 }) (record { caller = 0; job = JobCreates image rootb number }) =
-      some_of {A = Session} (record { caller = 0; job = JobCreates at.0 root at.1 }) (record { caller = 0; job = JobCreates image rootb number }) (sym may.session ∙ holds) in
+    some_of {A = Session} (record { caller = 0; job = JobCreates at.0 root at.1 }) (record { caller = 0; job = JobCreates image rootb number }) (sym may.session ∙ holds) in
     let job = same_job at.0 image root rootb at.1 number (ap (λ (q : Session). q.job) sessions) in
-    let here : MayMake s session 0 image root at.1 fields = subst (λ q. MayMake s session 0 q root at.1 fields) job.0 may in
-    (
+    let here : MayMake s session 0 image root at.1 fields = subst (λ q. MayMake s session 0 q root at.1 fields) job.0 may in (
       job.1,
       (at.1, here),
       (λ i. state_after s e.caller (one.1 i) (tells i)) ∙ (ap (λ q. manifest_put s session (map.get s.desk.sessions session) q) one.2 ∙ made_job session s image root at.1 (map.get s.desk.sessions session) fields here.session),
@@ -343,6 +342,7 @@ module _ (s : State) (session : ℕ) (image : List ℕ) (root number : ℕ) (fie
     where
       other : kind.Chunk root name.bytes ≡ kind.Manifest root image → ⊥
       other e = cc
+
       by : (o : Option Held) → map.get s.known.doubts (kind.Chunk root name.bytes) ≡ o → Has v (kind.Chunk root name.bytes)
       by None e =
           let same = settles.known (kind.Chunk root name.bytes) (gone_other s.known.doubts (kind.Manifest root image) (kind.Chunk root name.bytes) other ∙ e) in

@@ -217,8 +217,7 @@ texts_on objects old now lease index keys key bytes after chunk keeps at h e f =
     let here : map.get (state now.start now.log).desk.leases lease ≡ Some (image, m) = ap (λ (q : State). map.get q.desk.leases lease) keeps.same_state ∙ out in
     let one = f image m here in
     let key_at : slice_get keys (length had.0) ≡ Some key = ap (slice_get keys) had.1 ∙ at in
-    let name_at : slice_get m.names (length had.0) ≡ Some one.0 = ap (slice_get m.names) had.1 ∙ one.1 in
-    (
+    let name_at : slice_get m.names (length had.0) ≡ Some one.0 = ap (slice_get m.names) had.1 ∙ one.1 in (
       had.0 ++ chunk ∷ [],
       length-append had.0 (chunk ∷ []) ∙ ap (λ n. n + 1) had.1,
       chunks_more (objects old.origin) (state old.start old.log).known.view image m.names had.0 chunk had.2 (one.0, name_at, moved image one.0 one.2),
@@ -295,7 +294,7 @@ denotes_texts m tenant keys chunks bytes law tag is count same e body h =
     record {
       padded = take (padded_length m.raw_len) (texts keys chunks);
       denoted = law.right m tenant body tag ∙ ap (λ (l : List (List ℕ)). cut (padded_length m.raw_len) (plain_of body m.names l)) (sym is)
-    ∙ ap (cut (padded_length m.raw_len)) (plain_texts body m.names keys chunks same count h);
+          ∙ ap (cut (padded_length m.raw_len)) (plain_texts body m.names keys chunks same count h);
       cut = e ∙ sym (take-take m.raw_len (padded_length m.raw_len) (texts keys chunks) (omega arith));
     }
 
@@ -352,12 +351,15 @@ read_before before now view old image tenant m bytes stays same r =
 
 stored_bodies : (objects : Option Objects) (view : View) (image tenant : List ℕ) (m : ManifestFields) (bytes : List ℕ) (home : ℕ) → IsHome view image home → (r : IsReadOf objects view image tenant m bytes)
     → Told objects (λ o. (home : ℕ) × IsHome view image home × Denotes m tenant (bodies o home) bytes)
-stored_bodies objects view image tenant m bytes home homed r = λ o told.
-    (home, homed, r.over (bodies o home)
-    (λ i name chunk at there.
-        let one = r.named i chunk there in
-        let same : one.0 ≡ name = some_of one.0 name (sym one.1 ∙ at) in
-        ap (λ (q : Name). bodies o home q.bytes) (sym same) ∙ one.2.stored o told home homed))
+stored_bodies objects view image tenant m bytes home homed r = λ o told. (
+  home,
+  homed,
+  r.over (bodies o home)
+      (λ i name chunk at there.
+      let one = r.named i chunk there in
+      let same : one.0 ≡ name = some_of one.0 name (sym one.1 ∙ at) in
+      ap (λ (q : Name). bodies o home q.bytes) (sym same) ∙ one.2.stored o told home homed),
+)
 
 pub is_read : {O : Type 0} (objects : O → Option Objects) (old mid : Seen O) (image tenant : List ℕ) (lease : ℕ) (m : ManifestFields) (tail : List Step) (bytes : List ℕ) → (home : ℕ) × MayOpen (state old.start old.log) image home m
     → Told (objects old.origin) (λ o. objects mid.origin ≡ Some o) → (state mid.start mid.log).known.view ≡ (state old.start old.log).known.view
@@ -484,10 +486,10 @@ module _ {O : Type 0} (objects : O → Option Objects) (faults : O → ℕ) (old
       calls_on faults old mid new (step (opens image) (opened lease (arc_value manifest)) ∷ []) own (calls_one faults old mid (OpenImage image) (Opened lease manifest) start logs never) calls,
       open_goes_on image tenant lease (arc_value manifest) own (end_of r) walk,
       if_ok _ _ r
-      (λ v f.
+          (λ v f.
           is_read objects old mid image tenant lease (arc_value manifest) own (items v) (step_is.0, step_is.1) stays (same_view (state old.start old.log) (state mid.start mid.log) image (arc_value manifest) now_open)
           (f image is_leased))
-      read,
+          read,
     )
 
     pub cat_walk : {A : Type 0} (items : A → List ℕ) (new : Seen O) (man : ManifestFields) (r : Result A CatError) → man ≡ arc_value manifest

@@ -105,7 +105,10 @@ fn images_come_back(rt: HostRuntime) -> Result<(), Fail> {
     for len in LENGTHS {
         let mut depot = depot_over(alloc, MemOrigin::new(alloc))?;
         assert_eq!(rt; read_back(alloc, &mut depot, &TENANT, *len)?, "no image");
-        assert_eq!(rt; created(alloc, &mut depot, *len, Vec::new(alloc))?, "root 1");
+        assert_eq!(rt;
+            created(alloc, &mut depot, *len, Vec::new(alloc))?,
+            "root 1"
+        );
         assert_eq!(rt; read_back(alloc, &mut depot, &TENANT, *len)?, "same");
         assert_eq!(rt; created(alloc, &mut depot, *len, Vec::new(alloc))?, "taken");
         assert_eq!(rt; read_back(alloc, &mut depot, &OTHER, *len)?, "sealed");
@@ -118,7 +121,10 @@ fn images_come_back(rt: HostRuntime) -> Result<(), Fail> {
 fn the_limit_is_met(rt: HostRuntime) -> Result<(), Fail> {
     let alloc = rt.alloc();
     let mut depot = depot_over(alloc, MemOrigin::new(alloc))?;
-    assert_eq!(rt; created(alloc, &mut depot, 67_108_865, Vec::new(alloc))?, "too long");
+    assert_eq!(rt;
+        created(alloc, &mut depot, 67_108_865, Vec::new(alloc))?,
+        "too long"
+    );
     assert_eq!(rt; read_back(alloc, &mut depot, &TENANT, 0)?, "no image");
     assert_eq!(rt; created(alloc, &mut depot, 3, Vec::new(alloc))?, "root 1");
     Ok(())
@@ -132,7 +138,10 @@ fn a_failed_read_makes_no_image(rt: HostRuntime) -> Result<(), Fail> {
         let fails = Vec::from_slice(alloc, &[call])?;
         assert_eq!(rt; created(alloc, &mut depot, 5000, fails)?, "read fault");
         assert_eq!(rt; read_back(alloc, &mut depot, &TENANT, 5000)?, "no image");
-        assert_eq!(rt; created(alloc, &mut depot, 5000, Vec::new(alloc))?, "root 1");
+        assert_eq!(rt;
+            created(alloc, &mut depot, 5000, Vec::new(alloc))?,
+            "root 1"
+        );
     }
     Ok(())
 }
@@ -178,12 +187,21 @@ fn each_store_call_fails_once(rt: HostRuntime) -> Result<(), Fail> {
     let manifest = key_above(alloc, &chunk)?;
     let mut depot = depot_over(alloc, fails_once(alloc, Op::Put, &chunk)?)?;
     assert_eq!(rt; created(alloc, &mut depot, 5000, Vec::new(alloc))?, "fault");
-    assert_eq!(rt; created(alloc, &mut depot, 5000, Vec::new(alloc))?, "root 1");
+    assert_eq!(rt;
+        created(alloc, &mut depot, 5000, Vec::new(alloc))?,
+        "root 1"
+    );
     let mut depot = depot_over(alloc, fails_once(alloc, Op::Put, &manifest)?)?;
     assert_eq!(rt; created(alloc, &mut depot, 5000, Vec::new(alloc))?, "fault");
-    assert_eq!(rt; created(alloc, &mut depot, 5000, Vec::new(alloc))?, "refused");
+    assert_eq!(rt;
+        created(alloc, &mut depot, 5000, Vec::new(alloc))?,
+        "refused"
+    );
     let mut depot = depot_over(alloc, fails_once(alloc, Op::Get, &chunk)?)?;
-    assert_eq!(rt; created(alloc, &mut depot, 5000, Vec::new(alloc))?, "root 1");
+    assert_eq!(rt;
+        created(alloc, &mut depot, 5000, Vec::new(alloc))?,
+        "root 1"
+    );
     assert_eq!(rt; read_back(alloc, &mut depot, &TENANT, 5000)?, "fault");
     assert_eq!(rt; read_back(alloc, &mut depot, &TENANT, 5000)?, "same");
     Ok(())

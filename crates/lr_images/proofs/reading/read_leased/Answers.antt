@@ -23,8 +23,8 @@ returns-in-Ok-clause-read g c =
     let count : length c.in-Ok.keys ≡ length c.args.manifest.now.names = ap length c.in-Ok.ensures.1 ∙ key_count c.args.manifest.now c.args.tenant.now.bytes c.names.ensures.whole in
     if_ok _ _ c.fetch_all.result
     (λ v h image out.
-        is_read_of (g.O.Origin.objects c.args.depot.now.origin) (state c.args.depot.now.start c.args.depot.now.log) c.args.lease image c.args.manifest.now c.args.tenant.now.bytes c.in-Ok.keys h.0 v.items c.is_denoted_by_tag.ensures
-        c.in-Ok.ensures.0 c.in-Ok.ensures.1 count h.1 (h.2 ∙ ap (λ n. take n h.0) c.raw_len-len.ensures.value) out)
+    is_read_of (g.O.Origin.objects c.args.depot.now.origin) (state c.args.depot.now.start c.args.depot.now.log) c.args.lease image c.args.manifest.now c.args.tenant.now.bytes c.in-Ok.keys h.0 v.items c.is_denoted_by_tag.ensures
+    c.in-Ok.ensures.0 c.in-Ok.ensures.1 count h.1 (h.2 ∙ ap (λ n. take n h.0) c.raw_len-len.ensures.value) out)
     c.fetch_all.ensures.texts
 
 pub returns-in-Ok-clause-answer : goal.returns-in-Ok-clause-answer
