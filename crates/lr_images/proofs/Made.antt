@@ -1,14 +1,16 @@
 -- what a creation leaves in the store
-use Rattle.std.proofs.Common.{◌≡◌, ℕ, suc, ◌+◌, ◌%◌, ◌≤◌, arith, List, [], ◌∷◌, ◌++◌, map as each, length, Option, Some, None, refl, sym, ap, subst, ◌∙◌, inl, inr, append-nil, append_assoc, length-append, add-zero}
-use Rattle.std.specs.Prelude.{◌⊎◌, All, IsSome}
-use Rattle.std.proofs.lemmas.List.Elements.{All-contains}
+use Rattle.std.proofs.Common.{◌≡◌, ℕ, suc, ◌+◌, ◌%◌, ◌≤◌, arith, List, [], ◌∷◌, ◌++◌, map as each, length, take, ◌-◌, Option, Some, None, refl, sym, ap, subst, ◌∙◌, inl, inr, append-nil, append_assoc, length-append, add-zero}
+use Rattle.std.specs.Prelude.{◌⊎◌, All, IsSome, replicate}
+use Rattle.std.proofs.lemmas.List.Elements.{All-contains, All-from_recursion}
+use Rattle.std.proofs.lemmas.List.{take_at}
+use Rattle.lr_roots.specs.Roots.{IsComplete}
 use Rattle.lr_origin.specs.declared.key.KeyKind.{KeyKind}
 use Rattle.lr_origin.specs.Objects.{Objects}
 use Rattle.lr_origin.specs.Text.{key_text}
 use Rattle.lr_opening.specs.Store.{IsSame, IsBody, Mirrors, HasChunks, IsSoundStore}
 use Rattle.lr_rules.specs.Known.{Settles}
 use Rattle.lr_rules.specs.Parts.{HasParts}
-use Rattle.lr_layout.specs.Padded.{padded}
+use Rattle.lr_layout.specs.Padded.{padded, padded_length}
 use Rattle.lr_convergent.specs.Sealed.{sealed_bytes}
 use Rattle.lr_seal.specs.Table.{made as manifest_made}
 use Rattle.lr_seal.specs.Denotation.{denotation, DenotesItsParts}
@@ -28,7 +30,7 @@ use Rattle.lr_convergent.specs.Sealed.{sealed_key, sealed_name}
 use Rattle.lr_rules.specs.State.{Job, Creates as JobCreates, Session, Desk, State, Holds, target}
 use Rattle.lr_rules.specs.Calls.{MayMake, MayBegin, made as state_made, began as state_began}
 use Rattle.lr_rules.proofs.Keys.{at_n, at_key, at_other, gone_key, gone_other, no_some}
-use Rattle.lr_roots.specs.View.{View, Held, bare, manifest, Has}
+use Rattle.lr_roots.specs.View.{View, Held, bare, manifest, Has, Lacks}
 use Rattle.lr_rules.specs.Known.{accepted}
 use Rattle.lr_origin.specs.declared.key.KeyKind.TheVariants as kind
 use Rattle.lr_depot.specs.declared.call.DepotCall.{DepotCall}
@@ -327,42 +329,70 @@ all_of : (P : Name → Type 0) (xs : List Name) → ((x : Name) → Contains xs 
 all_of P [] f = tt
 all_of P (x ∷ xs) f = (f x (0, omega arith, refl), all_of P xs (λ y c. f y (suc c.0, omega (arith, c.1), c.2)))
 
-module _ (s : State) (session : ℕ) (image : List ℕ) (root number : ℕ) (fields : ManifestFields) (may : MayMake s session 0 image root number fields) (parts : HasParts s) (n : Objects) (v : View)
-    (settles : Settles (accepted s.known (kind.Manifest root image) (manifest fields)) v) (mirrors : Mirrors n v) (chunks : HasChunks n) where
-  manifest_stored : map.get n (key_text (kind.Manifest root image)) ≡ Some (spelling fields)
-  manifest_stored =
-      let k : KeyKind = kind.Manifest root image in
-      let at : map.get v k ≡ Some (manifest fields) = settles.known k (gone_key s.known.doubts k) ∙ at_key s.known.view k (manifest fields) in
+module _ (s : State) (parts : HasParts s) (n : Objects) (v : View) (settles : Settles s.known v) (mirrors : Mirrors n v) (chunks : HasChunks n) where
+  -- a known chunk of a root that isn't deleted is there
+  chunk_known : (r : ℕ) (name : Name) → Lacks s.known.view (kind.Deleted r) → Has s.known.view (kind.Chunk r name.bytes) → Has v (kind.Chunk r name.bytes)
+  chunk_known r name live has = by (map.get s.known.doubts (kind.Chunk r name.bytes)) refl
+    where
+      by : (o : Option Held) → map.get s.known.doubts (kind.Chunk r name.bytes) ≡ o → Has v (kind.Chunk r name.bytes)
+      by None e = subst (λ (o : Option Held). IsSome o) (sym (settles.known (kind.Chunk r name.bytes) e)) has
+      by (Some x) e =
+          let d = parts.deletions (kind.Chunk r name.bytes) (subst (λ (o : Option Held). IsSome o) (sym e) refl) has in
+          let gone : Has s.known.view (kind.Deleted r) = subst (λ q. Has s.known.view (kind.Deleted q)) (sym d.1) d.2 in
+          absurd (no_some (map.get s.known.view (kind.Deleted r)) live gone)
+
+  body_kept : (strings : List (List ℕ)) (r : ℕ) → ((name body : List ℕ) → bodies n r name ≡ Some body → Contains strings body) → Lacks s.known.view (kind.Deleted r) → (name : Name) → Has s.known.view (kind.Chunk r name.bytes) → HasBody strings (bodies n r) name
+  body_kept strings r all live name has =
+      let k : KeyKind = kind.Chunk r name.bytes in
+      let there = chunk_known r name live has in
+      let held = has_some (map.get v k) there in
+      let b = held_body k (map.get n (key_text k)) (map.get v k) held.0 held.1 (mirrors.each k (mirrors.kinds k there)) in
+      (b.0, b.1, all name.bytes b.0 b.1, (chunks r name.bytes b.0 (mirrors.kinds k there) b.1).1)
+
+  bodies_kept : (strings : List (List ℕ)) (r : ℕ) (fields : ManifestFields) → ((name body : List ℕ) → bodies n r name ≡ Some body → Contains strings body) → Lacks s.known.view (kind.Deleted r) → IsComplete s.known.view r fields
+      → AllByRecursion (HasBody strings (bodies n r)) fields.names
+  bodies_kept strings r fields all live whole =
+      all_of (HasBody strings (bodies n r)) fields.names (λ name c. body_kept strings r all live name (All-contains (λ (q : Name). Has s.known.view (kind.Chunk r q.bytes)) fields.names name whole c))
+
+  manifest_stored : (r : ℕ) (image : List ℕ) (fields : ManifestFields) → map.get s.known.view (kind.Manifest r image) ≡ Some (manifest fields) → map.get s.known.doubts (kind.Manifest r image) ≡ None → map.get n (key_text (kind.Manifest r image)) ≡ Some (spelling fields)
+  manifest_stored r image fields known sure =
+      let k : KeyKind = kind.Manifest r image in
+      let at : map.get v k ≡ Some (manifest fields) = settles.known k sure ∙ known in
       let has : Has v k = subst (λ (o : Option Held). IsSome o) (sym at) refl in
       let b = held_body k (map.get n (key_text k)) (map.get v k) (manifest fields) at (mirrors.each k (mirrors.kinds k has)) in
       b.1 ∙ ap Some b.2.1
 
-  chunk_known : (name : Name) → Has s.known.view (kind.Chunk root name.bytes) → Has v (kind.Chunk root name.bytes)
-  chunk_known name has = by (map.get s.known.doubts (kind.Chunk root name.bytes)) refl
-    where
-      other : kind.Chunk root name.bytes ≡ kind.Manifest root image → ⊥
-      other e = cc
+-- the manifest that was put is known, its root isn't deleted, and the root has its chunks
+module _ (t s : State) (session : ℕ) (image : List ℕ) (root number : ℕ) (fields : ManifestFields) (may : MayMake t session 0 image root number fields) (parts : HasParts t)
+    (left : s ≡ state_made t session image root fields) where
+  put_known : map.get s.known.view (kind.Manifest root image) ≡ Some (manifest fields)
+  put_known = ap (λ (q : State). map.get q.known.view (kind.Manifest root image)) left ∙ at_key t.known.view (kind.Manifest root image) (manifest fields)
 
-      by : (o : Option Held) → map.get s.known.doubts (kind.Chunk root name.bytes) ≡ o → Has v (kind.Chunk root name.bytes)
-      by None e =
-          let same = settles.known (kind.Chunk root name.bytes) (gone_other s.known.doubts (kind.Manifest root image) (kind.Chunk root name.bytes) other ∙ e) in
-          subst (λ (o : Option Held). IsSome o) (sym (same ∙ at_other s.known.view (kind.Manifest root image) (manifest fields) (kind.Chunk root name.bytes) other)) has
-      by (Some x) e =
-          let d = parts.deletions (kind.Chunk root name.bytes) (subst (λ (o : Option Held). IsSome o) (sym e) refl) has in
-          let serves = parts.sessions session (record { caller = 0; job = JobCreates image root number }) root may.session refl in
-          let gone : Has s.known.view (kind.Deleted root) = subst (λ q. Has s.known.view (kind.Deleted q)) (sym d.1) d.2 in
-          absurd (no_some (map.get s.known.view (kind.Deleted root)) serves.1 gone)
+  put_sure : map.get s.known.doubts (kind.Manifest root image) ≡ None
+  put_sure = ap (λ (q : State). map.get q.known.doubts (kind.Manifest root image)) left ∙ gone_key t.known.doubts (kind.Manifest root image)
 
-  body_kept : (strings : List (List ℕ)) → ((name body : List ℕ) → bodies n root name ≡ Some body → Contains strings body) → (name : Name) → Has s.known.view (kind.Chunk root name.bytes) → HasBody strings (bodies n root) name
-  body_kept strings all name has =
-      let k : KeyKind = kind.Chunk root name.bytes in
-      let there = chunk_known name has in
-      let held = has_some (map.get v k) there in
-      let b = held_body k (map.get n (key_text k)) (map.get v k) held.0 held.1 (mirrors.each k (mirrors.kinds k there)) in
-      (b.0, b.1, all name.bytes b.0 b.1, (chunks root name.bytes b.0 (mirrors.kinds k there) b.1).1)
+  others : (k : KeyKind) → (k ≡ kind.Manifest root image → ⊥) → map.get s.known.view k ≡ map.get t.known.view k
+  others k other = ap (λ (q : State). map.get q.known.view k) left ∙ at_other t.known.view (kind.Manifest root image) (manifest fields) k other
 
-  bodies_kept : (strings : List (List ℕ)) → ((name body : List ℕ) → bodies n root name ≡ Some body → Contains strings body) → AllByRecursion (HasBody strings (bodies n root)) fields.names
-  bodies_kept strings all = all_of (HasBody strings (bodies n root)) fields.names (λ name c. body_kept strings all name (All-contains (λ (q : Name). Has s.known.view (kind.Chunk root q.bytes)) fields.names name may.whole c))
+  put_live : Lacks s.known.view (kind.Deleted root)
+  put_live = others (kind.Deleted root) (λ e. cc) ∙ (parts.sessions session (record { caller = 0; job = JobCreates image root number }) root may.session refl).1
+
+  put_whole : IsComplete s.known.view root fields
+  put_whole = All-from_recursion (λ (q : Name). Has s.known.view (kind.Chunk root q.bytes)) fields.names
+      (all_of (λ (q : Name). Has s.known.view (kind.Chunk root q.bytes)) fields.names
+      (λ name c. subst (λ (o : Option Held). IsSome o) (sym (others (kind.Chunk root name.bytes) (λ e. cc))) (All-contains (λ (q : Name). Has t.known.view (kind.Chunk root q.bytes)) fields.names name may.whole c)))
+
+some_manifest : (x y : ManifestFields) → manifest x ≡ manifest y → x ≡ y
+some_manifest x y e = ap fields_in e
+  where
+    fields_in : Held → ManifestFields
+    fields_in (manifest m) = m
+    fields_in h = x
+
+cut_padded : (raw padded_bytes bytes : List ℕ) (len : ℕ) → Some padded_bytes ≡ Some (padded raw) → len ≡ length raw → bytes ≡ take len padded_bytes → bytes ≡ raw
+cut_padded raw padded_bytes bytes len e l cut =
+    let same : padded_bytes ≡ padded raw = some_of padded_bytes (padded raw) e in
+    cut ∙ ((λ i. take (l i) (same i)) ∙ take_at raw (replicate (padded_length (length raw) - length raw) 0) (length raw) refl)
 
 fields_names : (tenant : List ℕ) (place : Place) (parts : Parts) → (fields_of tenant place parts).names ≡ parts.names
 unfolding manifest_made
@@ -388,7 +418,7 @@ creations_are_made promise sound keeps law start m n before log image tenant pie
     let first_of = began_of tenant (each piece pieces ++ last ∷ []) root reply tail after in
     made_of first_of.0 first_of.1 first_of.2 first_of.3 first_of.4 first_of.5
   where
-    made_of : (session r : ℕ) (salt : List ℕ) (number : ℕ) → reply ≡ began session r salt number → Puts tenant (place_of session r salt number) no_parts (each piece pieces ++ last ∷ []) tail (with_root root) → IsMade n image tenant root pieces steps
+    made_of : (session r : ℕ) (salt : List ℕ) (number : ℕ) → reply ≡ began session r salt number → Puts tenant (place_of session r salt number) no_parts (each piece pieces ++ last ∷ []) tail (with_root root) → IsMade (state start log) n image tenant root pieces steps
     made_of session r salt number reply_is puts =
         let place : Place = place_of session r salt number in
         let one : first ≡ step (begins image) (began session r salt number) = is ∙ ap (λ q. step (begins image) q) reply_is in
@@ -409,9 +439,11 @@ creations_are_made promise sound keeps law start m n before log image tenant pie
         let parts : HasParts t = subst HasParts front_is (promise start (before ++ f.0 ∷ e.front) led.begun front_runs) in
         let left : state start log ≡ state_made t session image root fields = ap (state start) whole ∙ (fold-append after_entry (first_state start) before (f.0 ∷ f.1) ∙ e.left) in
         let k = keeps start m n log led in
-        let settles : Settles (accepted t.known (kind.Manifest root image) (manifest fields)) k.0 = subst (λ (q : State). Settles q.known k.0) left k.1 in
+        let now : State = state start log in
+        let kept : HasParts now = promise start log led.begun (leads_run (first_state start) m log n led.leads) in
         let chunks : HasChunks n = (sound start m n log led had).1 in
         let long : e.final.raw_len ≡ length (joined pieces) = omega (arith, e.raw) in
+        let known = put_known t now session image root e.number fields e.may parts left in
         record {
           session = session;
           salt = salt;
@@ -419,11 +451,19 @@ creations_are_made promise sound keeps law start m n before log image tenant pie
           tail = tail;
           begun = all_at session r salt number all e.root_is;
           manifest = fields;
-          stored = manifest_stored t session image root e.number fields e.may parts n k.0 settles k.2 chunks;
+          stored = manifest_stored now kept n k.0 k.1 k.2 chunks root image fields known (put_sure t now session image root e.number fields e.may parts left);
           raw_len = fields_raw tenant place e.final ∙ long;
-          denotes = λ strings apart contains kept.
+          denotes = λ strings apart contains all_there.
               pieces_denoted tenant place e.final e.names pieces strings (bodies n root) law long e.names_are e.keys_are e.are e.named apart contains
-              (subst (AllByRecursion (HasBody strings (bodies n root))) (fields_names tenant place e.final) (bodies_kept t session image root e.number fields e.may parts n k.0 settles k.2 chunks strings kept));
+              (subst (AllByRecursion (HasBody strings (bodies n root))) (fields_names tenant place e.final)
+              (bodies_kept now kept n k.0 k.1 k.2 chunks strings root fields all_there (put_live t now session image root e.number fields e.may parts left) (put_whole t now session image root e.number fields e.may parts left)));
+          read = λ home p bytes may had strings apart contains all_there.
+              let same : p ≡ fields = some_manifest p fields (kept.sound.one_manifest image home root (manifest p) (manifest fields) may.listed known) in
+              let listed : map.get now.known.view (kind.Manifest home image) ≡ Some (manifest fields) = may.listed ∙ ap (λ q. Some (manifest q)) same in
+              let is = pieces_denoted tenant place e.final e.names pieces strings (bodies n home) law long e.names_are e.keys_are e.are e.named apart contains
+                (subst (AllByRecursion (HasBody strings (bodies n home))) (fields_names tenant place e.final)
+                (bodies_kept now kept n k.0 k.1 k.2 chunks strings home fields all_there may.home.live.1 (kept.sound.complete image home fields may.home.live listed))) in
+              cut_padded (joined pieces) had.padded bytes p.raw_len (sym had.denoted ∙ (ap (λ q. denotation q tenant (bodies n home)) same ∙ is)) (ap (λ (q : ManifestFields). q.raw_len) same ∙ (fields_raw tenant place e.final ∙ long)) had.cut;
         }
       where
         all_at : (session r : ℕ) (salt : List ℕ) (number : ℕ) → steps ≡ step (begins image) (began session r salt number) ∷ tail → root ≡ r → steps ≡ step (begins image) (began session root salt number) ∷ tail

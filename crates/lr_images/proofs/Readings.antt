@@ -350,16 +350,13 @@ read_before before now view old image tenant m bytes stays same r =
     }
 
 stored_bodies : (objects : Option Objects) (view : View) (image tenant : List ℕ) (m : ManifestFields) (bytes : List ℕ) (home : ℕ) → IsHome view image home → (r : IsReadOf objects view image tenant m bytes)
-    → Told objects (λ o. (home : ℕ) × IsHome view image home × Denotes m tenant (bodies o home) bytes)
-stored_bodies objects view image tenant m bytes home homed r = λ o told. (
-  home,
-  homed,
-  r.over (bodies o home)
-      (λ i name chunk at there.
-      let one = r.named i chunk there in
-      let same : one.0 ≡ name = some_of one.0 name (sym one.1 ∙ at) in
-      ap (λ (q : Name). bodies o home q.bytes) (sym same) ∙ one.2.stored o told home homed),
-)
+    → Told objects (λ o. Denotes m tenant (bodies o home) bytes)
+stored_bodies objects view image tenant m bytes home homed r = λ o told.
+    r.over (bodies o home)
+    (λ i name chunk at there.
+        let one = r.named i chunk there in
+        let same : one.0 ≡ name = some_of one.0 name (sym one.1 ∙ at) in
+        ap (λ (q : Name). bodies o home q.bytes) (sym same) ∙ one.2.stored o told home homed)
 
 pub is_read : {O : Type 0} (objects : O → Option Objects) (old mid : Seen O) (image tenant : List ℕ) (lease : ℕ) (m : ManifestFields) (tail : List Step) (bytes : List ℕ) → (home : ℕ) × MayOpen (state old.start old.log) image home m
     → Told (objects old.origin) (λ o. objects mid.origin ≡ Some o) → (state mid.start mid.log).known.view ≡ (state old.start old.log).known.view
@@ -371,7 +368,8 @@ is_read objects old mid image tenant lease m tail bytes (home, may) stays same r
       manifest = m;
       tail = tail;
       leased = refl;
-      listed = (home, may);
+      home = home;
+      listed = may;
       read = here;
       stored = stored_bodies (objects old.origin) (state old.start old.log).known.view image tenant m bytes home may.home here;
     }

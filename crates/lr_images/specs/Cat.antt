@@ -122,9 +122,10 @@ pub record IsRead {O : Type 0} (objects : O → Option Objects) (old : Seen O) (
   pub manifest : ManifestFields
   pub tail : List Step
   pub leased : steps ≡ step (opens image) (opened lease manifest) ∷ tail
-  pub listed : (home : ℕ) × MayOpen (state old.start old.log) image home manifest
+  pub home : ℕ
+  pub listed : MayOpen (state old.start old.log) image home manifest
   pub read : IsReadOf (objects old.origin) (state old.start old.log).known.view image tenant manifest bytes
-  pub stored : Told (objects old.origin) (λ m. (home : ℕ) × IsHome (state old.start old.log).known.view image home × Denotes manifest tenant (bodies m home) bytes)
+  pub stored : Told (objects old.origin) (λ m. Denotes manifest tenant (bodies m home) bytes)
 
 -- the store failed or is spoiled, or no memory was found
 abbrev pub IsStoreAnswer : CatError → Type 0
