@@ -4,3 +4,4 @@ pub mod Creations
 pub mod Readings
 pub mod Filled
 pub mod Made
+pub mod Why

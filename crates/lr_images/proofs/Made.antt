@@ -461,8 +461,8 @@ creations_are_made promise sound keeps law start m n before log image tenant pie
               let same : p ≡ fields = some_manifest p fields (kept.sound.one_manifest image home root (manifest p) (manifest fields) may.listed known) in
               let listed : map.get now.known.view (kind.Manifest home image) ≡ Some (manifest fields) = may.listed ∙ ap (λ q. Some (manifest q)) same in
               let is = pieces_denoted tenant place e.final e.names pieces strings (bodies n home) law long e.names_are e.keys_are e.are e.named apart contains
-                (subst (AllByRecursion (HasBody strings (bodies n home))) (fields_names tenant place e.final)
-                (bodies_kept now kept n k.0 k.1 k.2 chunks strings home fields all_there may.home.live.1 (kept.sound.complete image home fields may.home.live listed))) in
+              (subst (AllByRecursion (HasBody strings (bodies n home))) (fields_names tenant place e.final)
+              (bodies_kept now kept n k.0 k.1 k.2 chunks strings home fields all_there may.home.live.1 (kept.sound.complete image home fields may.home.live listed))) in
               cut_padded (joined pieces) had.padded bytes p.raw_len (sym had.denoted ∙ (ap (λ q. denotation q tenant (bodies n home)) same ∙ is)) (ap (λ (q : ManifestFields). q.raw_len) same ∙ (fields_raw tenant place e.final ∙ long)) had.cut;
         }
       where

@@ -354,9 +354,9 @@ stored_bodies : (objects : Option Objects) (view : View) (image tenant : List �
 stored_bodies objects view image tenant m bytes home homed r = λ o told.
     r.over (bodies o home)
     (λ i name chunk at there.
-        let one = r.named i chunk there in
-        let same : one.0 ≡ name = some_of one.0 name (sym one.1 ∙ at) in
-        ap (λ (q : Name). bodies o home q.bytes) (sym same) ∙ one.2.stored o told home homed)
+    let one = r.named i chunk there in
+    let same : one.0 ≡ name = some_of one.0 name (sym one.1 ∙ at) in
+    ap (λ (q : Name). bodies o home q.bytes) (sym same) ∙ one.2.stored o told home homed)
 
 pub is_read : {O : Type 0} (objects : O → Option Objects) (old mid : Seen O) (image tenant : List ℕ) (lease : ℕ) (m : ManifestFields) (tail : List Step) (bytes : List ℕ) → (home : ℕ) × MayOpen (state old.start old.log) image home m
     → Told (objects old.origin) (λ o. objects mid.origin ≡ Some o) → (state mid.start mid.log).known.view ≡ (state old.start old.log).known.view

@@ -2,3 +2,4 @@ pub mod Drive
 pub mod Created
 pub mod Cat
 pub mod Made
+pub mod Answered

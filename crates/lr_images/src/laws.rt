@@ -1,4 +1,5 @@
-//! Laws, as contracts of functions that do nothing: what a creation leaves in the store.
+//! Laws, as contracts of functions that do nothing: what a creation leaves in the store, and which answers come.
+ghost use Rattle.lr_images.specs.Answered.{SoundStoresAreUnspoiled, CreationsTellWhy, ReadingsTellWhy};
 ghost use Rattle.lr_images.specs.Made.{CreationsAreMade};
 
 use lr_depot::{calls_keep_the_promise, store_stays_sound};
@@ -13,4 +14,14 @@ pub fn created_images_denote()
     calls_keep_the_promise();
     store_stays_sound();
     denotes_its_parts();
+}
+
+/// The depot's answer that ended a creation or a reading stands in its log, and no log over a store that was sound when the
+/// depot started tells that it is spoiled.
+pub fn answers_are_told()
+    ensures unspoiled { SoundStoresAreUnspoiled }
+    ensures created { CreationsTellWhy }
+    ensures read { ReadingsTellWhy }
+{
+    store_stays_sound();
 }

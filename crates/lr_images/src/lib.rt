@@ -16,5 +16,5 @@ mod tests;
 
 pub use created::Created;
 pub use creating::create;
-pub use laws::created_images_denote;
+pub use laws::{answers_are_told, created_images_denote};
 pub use reading::{CatError, cat};
