@@ -1,0 +1,9 @@
+pub mod Loads
+pub mod Served
+pub mod OneCall
+pub mod Forgings
+pub mod Lifting
+pub mod Collected
+pub mod Migrated
+pub mod Created
+pub mod Needs

@@ -1,0 +1,7 @@
+//! Device calls over a cache, five nodes and a depot.
+use std::test::Fail;
+
+#[test]
+fn compiles(rt: HostRuntime) -> Result<(), Fail> {
+    Ok(())
+}
