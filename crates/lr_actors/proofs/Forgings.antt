@@ -1,7 +1,9 @@
 -- a forging's steps: with each one the walk goes on
-use Rattle.std.proofs.Common.{◌≡◌, ◌⊎◌, inl, inr, ℕ, suc, ◌+◌, ◌≤◌, List, [], ◌∷◌, ◌++◌, length, arith, refl, sym, ap, subst, ◌∙◌, append_assoc}
+use Rattle.std.proofs.Common.{◌≡◌, ◌⊎◌, inl, inr, ℕ, zero, suc, replicate, ◌+◌, ◌≤◌, List, [], ◌∷◌, ◌++◌, length, arith, refl, sym, ap, subst, ◌∙◌, append_assoc}
 use Rattle.std.specs.List.{AllByRecursion, AllZip}
 use Rattle.lr_manifest.specs.declared.name.Name.{Name}
+use Rattle.lr_stripe.specs.Code.{IsStripe}
+use Rattle.lr_stripe.specs.Good.{IsGood}
 use Rattle.lr_stripe.specs.declared.stripe.Stripe.{Stripe}
 use Rattle.lr_walk.specs.declared.trail.Answer.{Answer}
 use Rattle.lr_walk.specs.declared.trail.Answer.TheVariants.{Forged, Memory}
@@ -10,7 +12,7 @@ use Rattle.lr_walk.specs.Damage.{IsForged, forged_so_far, PutsForged}
 use Rattle.lr_walk.specs.Node as nodes
 use Rattle.lr_walk.proofs.Stands.{made_walk}
 use Rattle.lr_actors.specs.Asked.{Asked, a_call, an_end, Adds}
-use Rattle.lr_actors.specs.Forging.{Target, Forging, Need, putting, ended, Progress, Rest, StandsFor, IsFront, put_of, asked, Admits, advanced, steps_left, Begins}
+use Rattle.lr_actors.specs.Forging.{AreZeros, Target, Forging, Need, putting, ended, Progress, Rest, StandsFor, IsFront, put_of, asked, Admits, advanced, steps_left, Begins}
 
 rest_at : (t : Target) (new wanted : Need) → new ≡ wanted → (tail : List Step) (ending : Answer) → Rest t new tail ending → Rest t wanted tail ending
 rest_at t new wanted e tail ending r = subst (λ (q : Need). Rest t q tail ending) e r
@@ -96,3 +98,18 @@ same_zeros [] [] h k e = refl
 same_zeros [] (y ∷ ys) h k e = absurd (omega arith)
 same_zeros (x ∷ xs) [] h k e = absurd (omega arith)
 same_zeros (x ∷ xs) (y ∷ ys) h k e = λ i. (h.0 ∙ sym k.0) i ∷ same_zeros xs ys h.1 k.1 (omega arith) i
+
+-- a stripe of one chunk of zeros is that of each
+pub forged_by : (zeros : List ℕ) (name : Name) (index : ℕ) (s made : Stripe) → AreZeros zeros → IsGood made made.name index → IsStripe 4 zeros index made.bytes
+    → s ≡ record made { name = name } → IsForged name index s
+forged_by zeros name index s made z good stripe e = subst (IsForged name index) (sym e) (record {
+  its_name = refl;
+  its_index = good.its_index;
+  long = good.long;
+  its_digest = good.its_digest;
+  bytes = λ other long all. subst (λ (l : List ℕ). IsStripe 4 l index made.bytes) (same_zeros zeros other z.zeros all (z.long ∙ sym long)) stripe;
+})
+
+pub zeros_all : (n : ℕ) → AllByRecursion (λ (b : ℕ). b ≡ 0) (replicate n 0)
+zeros_all zero = tt
+zeros_all (suc n) = (refl, zeros_all n)

@@ -7,3 +7,4 @@ pub mod Collected
 pub mod Migrated
 pub mod Created
 pub mod Needs
+pub mod LoadTurns

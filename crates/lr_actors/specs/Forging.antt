@@ -1,7 +1,7 @@
 -- A forging under way, as contracts see it.
 use Rattle.std.specs.Prelude.{◌≡◌, ◌⊎◌, ◌+◌, ℕ, List, [], ◌∷◌, ◌++◌, length, map, Bool, Option, Some, None, ⊤}
 use Rattle.std.specs.Arc.{arc_value}
-use Rattle.std.specs.List.{AllZip}
+use Rattle.std.specs.List.{AllByRecursion, AllZip}
 use Rattle.lr_manifest.specs.declared.name.Name.{Name}
 use Rattle.lr_stripe.specs.declared.stripe.Stripe.{Stripe}
 use Rattle.lr_walk.specs.declared.trail.Answer.{Answer}
@@ -18,6 +18,11 @@ use Rattle.lr_actors.specs.declared.forge.ForgeStage.TheVariants as stage
 use Rattle.lr_actors.specs.declared.forge.ForgeTurn.{ForgeTurn}
 use Rattle.lr_actors.specs.Asked.{Asked, a_call, an_end, Hands, MayBeMade}
 use Rattle.lr_actors.specs.Kept.{IsPrepared}
+
+-- the bytes are those of a chunk, and all zeros
+pub record AreZeros (bytes : List ℕ) : Type 0 where
+  pub zeros : AllByRecursion (λ (b : ℕ). b ≡ 0) bytes
+  pub long : length bytes ≡ 524288
 
 -- among so many nodes, under the name of a chunk
 pub record Target : Type 0 where

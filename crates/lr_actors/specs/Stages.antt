@@ -6,7 +6,9 @@ use Rattle.lr_depot.specs.declared.call.DepotReply.TheVariants as depot
 use Rattle.lr_device.specs.PlainDevice.{size_of}
 use Rattle.lr_walk.specs.Steps.{Reply, by_device, by_cache, by_node, by_depot}
 use Rattle.lr_walk.specs.Load.{Ending, with_chunk, with_reply, with_memory}
-use Rattle.lr_walk.specs.Calls.{DevicePlace, load_place}
+use Rattle.lr_walk.specs.declared.trail.Answer.{Answer}
+use Rattle.lr_walk.specs.declared.trail.Answer.TheVariants.{Memory}
+use Rattle.lr_walk.specs.Calls.{DevicePlace, answer_of}
 use Rattle.lr_walk.specs.Depot as depots
 use Rattle.lr_walk.specs.Device as devices
 use Rattle.lr_loader.specs.Progress as loads
@@ -41,6 +43,21 @@ fetched_chunk reply = []
 abbrev pub IsOfLoad : Reply → Type 0
 IsOfLoad (by_device reply) = ⊥
 IsOfLoad reply = ⊤
+
+-- a reply of a device
+abbrev pub IsOfDevice : Reply → Type 0
+IsOfDevice (by_device reply) = ⊤
+IsOfDevice reply = ⊥
+
+-- the planned call was made
+abbrev pub IsCommitted : devices.Reply → Type 0
+IsCommitted (devices.committed told) = ⊤
+IsCommitted reply = ⊥
+
+-- .. with this answer
+abbrev pub committed_answer : devices.Reply → Answer
+committed_answer (devices.committed told) = answer_of told
+committed_answer reply = Memory
 
 abbrev pub seen_left : Waiting → Left
 seen_left waiting = record { pages = waiting.pages; needs = drop waiting.at waiting.needs; pieces = map devices.seen_piece waiting.pieces.items }

@@ -2,13 +2,15 @@
 ghost use Rattle.std.specs.Prelude.{◌≡◌, ◌≤◌, ◌<◌, ◌+◌, ◌++◌, ◌∷◌, ℕ, List, [], true, false, length, map, IfOk, IfSome, IfNone};
 ghost use Rattle.std.specs.Arc.{arc_value};
 ghost use Rattle.std.specs.List.{AllByRecursion, AllZip};
+ghost use Rattle.lr_stripe.specs.Code.{IsStripe};
+ghost use Rattle.lr_stripe.specs.Good.{IsGood};
 ghost use Rattle.lr_stripe.specs.declared.stripe.Stripe.{Stripe as KeptStripe};
 ghost use Rattle.lr_walk.specs.declared.trail.Answer.{Answer as Ending};
 ghost use Rattle.lr_walk.specs.Steps.{Step, Reply};
 ghost use Rattle.lr_walk.specs.Stripes.{node_at};
 ghost use Rattle.lr_walk.specs.Damage.{IsForged, forged_so_far};
 ghost use Rattle.lr_actors.specs.Asked.{Hands, MayBeMade, seen_reply, an_end, Adds};
-ghost use Rattle.lr_actors.specs.Forging.{Target, Forging, putting, ended, StandsFor, IsFront, asked, Admits, advanced, steps_left, Begins, need_of, IsTurn};
+ghost use Rattle.lr_actors.specs.Forging.{AreZeros, Target, Forging, putting, ended, StandsFor, IsFront, asked, Admits, advanced, steps_left, Begins, need_of, IsTurn};
 
 use crate::action::{ActorCall, ActorReply, JobAction};
 use lr_manifest::{CHUNK, Chunk, Name};
@@ -57,14 +59,37 @@ impl Model for ForgeJob {
     ghost invariant = { λ s. (5 ≤ s.nodes) × IsReady (record { nodes = s.nodes; name = s.name }) s.stage s.ready };
 }
 
-// The chunk of zeros.
-fn zeros(alloc: Global) -> Result<Chunk, OutOfMemory>
-    ensures { IfOk result (λ c. AllByRecursion (λ (b : ℕ). b ≡ 0) c × (length c ≡ 524288)) }
+// So many zeros.
+fn zero_bytes(alloc: Global, size: usize) -> Result<Vec<u8>, OutOfMemory>
+    ensures zeros { IfOk result (λ v. AllByRecursion (λ (b : ℕ). b ≡ 0) v.items) }
+    ensures length { IfOk result (λ v. length v.items ≡ size) }
 {
-    Ok(Chunk::of(vec![in alloc; 0u8; CHUNK]?))
+    let mut bytes = Vec::new(alloc);
+    bytes.resize(size, 0u8)?;
+    Ok(bytes)
 }
 
-// A stripe of the chunk of zeros, under the name of another.
+// The chunk of zeros.
+fn zeros(alloc: Global) -> Result<Chunk, OutOfMemory>
+    ensures { IfOk result (λ c. AreZeros c) }
+{
+    Ok(Chunk::of(zero_bytes(alloc, CHUNK)?))
+}
+
+// The stripe of the chunk of zeros, under the name of another.
+fn under(stripe: Stripe, _zeros: &Chunk, name: &Name, _index: u8) -> Stripe
+    requires zeros { AreZeros _zeros.now }
+    requires good { IsGood stripe stripe.name _index }
+    requires bytes { IsStripe 4 _zeros.now _index stripe.bytes }
+    ensures { IsForged name.now _index result }
+{
+    Stripe {
+        name: *name,
+        ..stripe
+    }
+}
+
+// A forged stripe.
 fn forged(
     alloc: Global,
     zeros: &Chunk,
@@ -72,21 +97,12 @@ fn forged(
     index: u8,
 ) -> Result<Arc<Stripe>, OutOfMemory>
     requires index { index < 5 }
-    requires zeros { AllByRecursion (λ (b : ℕ). b ≡ 0) zeros.now × (length zeros.now ≡ 524288) }
+    requires zeros { AreZeros zeros.now }
     ensures { IfOk result (λ s. IsForged name.now index (arc_value s)) }
 {
     let made = Stripe::make(alloc, zeros, index)?;
-    Ok(Arc::new(alloc, under(made, name))?)
-}
-
-// The stripe under another name.
-fn under(stripe: Stripe, name: &Name) -> Stripe
-    ensures { result ≡ record stripe { name = name.now } }
-{
-    Stripe {
-        name: *name,
-        ..stripe
-    }
+    let stripe = under(made, zeros, name, index);
+    Ok(Arc::new(alloc, stripe)?)
 }
 
 // All five forged stripes, in order.

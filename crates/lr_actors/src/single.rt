@@ -50,7 +50,7 @@ pub struct SingleJob {
 
 impl Model for SingleJob {
     ghost use Rattle.std.specs.Prelude.{is_some};
-    ghost use Rattle.lr_actors.specs.Singles.{Progress};
+    ghost use Rattle.lr_actors.specs.Singles.{Progress, IsSingle};
     ghost use Rattle.lr_actors.specs.Kept.{single_need, IsPreparedSingle};
 
     ghost Value = { Progress };

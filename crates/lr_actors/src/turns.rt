@@ -1,14 +1,19 @@
 //! What a device call keeps between a call and its reply, and each turn from one stage to the next.
-ghost use Rattle.std.specs.Prelude.{◌≡◌, ◌⊎◌, ◌≤◌, ◌<◌, ◌+◌, ◌∷◌, ◌++◌, [], ℕ, List, map, drop, slice_get, Some, IfSome, IfNone};
+ghost use Rattle.std.specs.Prelude.{◌≡◌, ◌⊎◌, ◌≤◌, ◌<◌, ◌+◌, ◌∷◌, ◌++◌, [], ℕ, List, length, map, drop, slice_get, Some, IfSome, IfNone};
 ghost use Rattle.std.specs.Arc.{arc_value};
+ghost use Rattle.std.specs.List.{AllByRecursion};
 ghost use Rattle.lr_walk.specs.declared.trail.Answer.TheVariants.{Memory};
-ghost use Rattle.lr_walk.specs.Device.{seen_piece, Piece as SeenPiece};
+ghost use Rattle.lr_walk.specs.Steps.{by_device};
+ghost use Rattle.lr_walk.specs.Calls.{answer_of};
+ghost use Rattle.lr_walk.specs.Device.{seen_piece};
+ghost use Rattle.lr_walk.specs.Device as devices;
 ghost use Rattle.lr_walk.specs.declared.place.LoadPlace.{LoadPlace as Placed};
 ghost use Rattle.lr_loader.specs.Seen as loader;
+ghost use Rattle.lr_loader.specs.Progress as loads;
 ghost use Rattle.lr_actors.specs.Places.{seen_place, IsPlace};
 ghost use Rattle.lr_actors.specs.Asked.{Hands, MayBeMade, seen_reply};
-ghost use Rattle.lr_actors.specs.Serving.{planning, loading, committing, dropping, ended, HasChunk, LoadsNext, IsShort, GoesOn, Loaded, Admits, Next, asked_by};
-ghost use Rattle.lr_actors.specs.Stages.{work_of, fetched_chunk, IsOfLoad, seen_left, left_after, seen_chunk, need_of, IsWork, EndsWell, IsLoadCall, IsWaiting, IsFetching, IsKept, IsTurn, IsFew};
+ghost use Rattle.lr_actors.specs.Serving.{planning, loading, committing, dropping, ended, HasChunk, HasLease, LoadsNext, IsShort, GoesOn, Loaded, Admits, Next, asked_by};
+ghost use Rattle.lr_actors.specs.Stages.{work_of, fetched_chunk, IsOfLoad, seen_left, left_after, seen_chunk, need_of, IsWork, EndsWell, GoesWell, IsLoadCall, IsWaiting, IsFetching, IsKept, IsTurn, IsFew, IsOfDevice, IsCommitted, committed_answer};
 
 use crate::action::{ActorCall, ActorReply, JobAction};
 use crate::place::DevicePlace;
@@ -256,33 +261,73 @@ fn go_on(alloc: Global, setting: &Setting, place: &DevicePlace, waiting: Waiting
     }
 }
 
+// The reply of a device.
+fn of_device(reply: ActorReply) -> DeviceAnswer
+    requires { IsOfDevice (seen_reply reply) }
+    ensures { by_device (devices.seen_reply result) ≡ seen_reply reply }
+{
+    match reply {
+        ActorReply::Device(answer) => answer,
+        _ => unreachable!(),
+    }
+}
+
+// A planned call waits for its loads.
+fn wait(alloc: Global, call: Arc<DeviceCall>, needs: Needs, pages: u32) -> Waiting
+    ensures waiting { result ≡ record { call = call; needs = needs; at = 0; pages = pages; pieces = result.pieces } }
+    ensures pieces { result.pieces.items ≡ [] }
+    ensures few { length needs ≤ 3 }
+{
+    let _ = needs.count();
+    Waiting {
+        call,
+        needs,
+        at: 0,
+        pages,
+        pieces: Vec::new(alloc),
+    }
+}
+
+// The call is planned: its loads begin.
+fn begin_loads(
+    alloc: Global,
+    setting: &Setting,
+    place: &DevicePlace,
+    call: Arc<DeviceCall>,
+    needs: Needs,
+    pages: u32,
+) -> Turn
+    requires work { IsWork (work_of setting.now) }
+    requires place { seen_place place.now ≡ (work_of setting.now).place }
+    requires call { arc_value call ≡ setting.now.call.value }
+    requires chunks { AllByRecursion (HasChunk (work_of setting.now).place) needs }
+    ensures turn { IsTurn (work_of setting.now) result }
+    ensures next { GoesOn (work_of setting.now) pages needs [] (need_of result.stage) }
+    ensures few { length needs ≤ 3 }
+{
+    let waiting = wait(alloc, call, needs, pages);
+    go_on(alloc, setting, place, waiting)
+}
+
 // The reply to the Plan.
 fn planned(
     alloc: Global,
     setting: &Setting,
     place: &DevicePlace,
     call: Arc<DeviceCall>,
-    reply: ActorReply,
+    answer: DeviceAnswer,
 ) -> Turn
     requires work { IsWork (work_of setting.now) }
     requires place { seen_place place.now ≡ (work_of setting.now).place }
     requires call { arc_value call ≡ setting.now.call.value }
-    requires admitted { Admits (work_of setting.now) planning (seen_reply reply) }
+    requires admitted { Admits (work_of setting.now) planning (by_device (devices.seen_reply answer)) }
     ensures turn { IsTurn (work_of setting.now) result }
-    ensures next { Next (work_of setting.now) planning (seen_reply reply) (fetched_chunk reply) (need_of result.stage) }
-    ensures few { IsFew (seen_reply reply) }
+    ensures next { (got : List ℕ) → Next (work_of setting.now) planning (by_device (devices.seen_reply answer)) got (need_of result.stage) }
+    ensures few { IsFew (by_device (devices.seen_reply answer)) }
 {
-    match reply {
-        ActorReply::Device(DeviceAnswer::Planned { needs, pages }) => {
-            let _few = needs.count();
-            let waiting = Waiting {
-                call,
-                needs,
-                at: 0,
-                pages,
-                pieces: Vec::new(alloc),
-            };
-            go_on(alloc, setting, place, waiting)
+    match answer {
+        DeviceAnswer::Planned { needs, pages } => {
+            begin_loads(alloc, setting, place, call, needs, pages)
         }
         _ => to_end(setting, Answer::Memory),
     }
@@ -370,6 +415,41 @@ fn load_reply(reply: ActorReply) -> LoadReply
     }
 }
 
+// The load takes a reply, and hands out what it does next.
+fn step_load(load: &mut Load, reply: ActorReply) -> LoadAction
+    requires handed { load.old.ready ≡ false }
+    requires admitted { loads.Admits load.old.place load.old.need (seen_reply reply) }
+    requires lease { HasLease (seen_reply reply) }
+    requires well { GoesWell load.old.need }
+    ensures place { load.new.place ≡ load.old.place }
+    ensures handed { load.new.ready ≡ false }
+    ensures next { loads.Next load.old.place load.old.need (seen_reply reply) (fetched_chunk reply) load.new.need }
+    ensures well { GoesWell load.new.need }
+    ensures asked { loader.seen_action result ≡ loads.asked load.new.place load.new.need }
+    ensures may { loader.MayBeMade result }
+{
+    load.take(load_reply(reply));
+    load.next()
+}
+
+// A load goes on.
+fn to_go_on(_setting: &Setting, fetching: Fetching, waiting: Waiting, action: LoadAction) -> Turn
+    requires waiting { IsWaiting (work_of _setting.now) waiting }
+    requires handed { fetching.load.ready ≡ false }
+    requires index { fetching.load.place.index ≡ fetching.index }
+    requires well { GoesWell fetching.load.need }
+    requires asked { loader.seen_action action ≡ loads.asked fetching.load.place fetching.load.need }
+    requires may { loader.MayBeMade action }
+    requires call { IsLoadCall (loader.seen_action action) }
+    ensures turn { IsTurn (work_of _setting.now) result }
+    ensures need { need_of result.stage ≡ loading (seen_chunk fetching) fetching.load.need (seen_left waiting) }
+{
+    Turn {
+        stage: Stage::Loads(fetching, waiting),
+        ready: of_load(action),
+    }
+}
+
 // The reply to a load's call.
 fn load_turn(
     alloc: Global,
@@ -383,7 +463,7 @@ fn load_turn(
     requires place { seen_place place.now ≡ (work_of setting.now).place }
     requires waiting { IsWaiting (work_of setting.now) waiting }
     requires fetching { IsFetching (work_of setting.now) fetching }
-    requires admitted { Admits (work_of setting.now) (loading (seen_chunk fetching) fetching.load.need (seen_left waiting)) (seen_reply reply) }
+    requires admitted { loads.Admits fetching.load.place fetching.load.need (seen_reply reply) × HasLease (seen_reply reply) }
     ensures turn { IsTurn (work_of setting.now) result }
     ensures next { Next (work_of setting.now) (loading (seen_chunk fetching) fetching.load.need (seen_left waiting)) (seen_reply reply) (fetched_chunk reply) (need_of result.stage) }
 {
@@ -392,26 +472,50 @@ fn load_turn(
         index,
         key,
     } = fetching;
-    load.take(load_reply(reply));
-    let action = load.next();
+    let action = step_load(&mut load, reply);
     match action {
         LoadAction::End(end) => load_ended(alloc, setting, place, index, key, waiting, end),
-        other => Turn {
-            stage: Stage::Loads(Fetching { load, index, key }, waiting),
-            ready: of_load(other),
-        },
+        LoadAction::Cache(host, call) => to_go_on(
+            setting,
+            Fetching { load, index, key },
+            waiting,
+            LoadAction::Cache(host, call),
+        ),
+        LoadAction::Node(node, call) => to_go_on(
+            setting,
+            Fetching { load, index, key },
+            waiting,
+            LoadAction::Node(node, call),
+        ),
+        LoadAction::Depot(call) => to_go_on(
+            setting,
+            Fetching { load, index, key },
+            waiting,
+            LoadAction::Depot(call),
+        ),
+    }
+}
+
+// The answer of a call that got this reply.
+fn answer_to(reply: DeviceReply) -> Answer
+    ensures { result ≡ answer_of reply }
+{
+    match reply {
+        DeviceReply::Range => Answer::Range,
+        DeviceReply::Got(_) => Answer::Done,
+        DeviceReply::Done => Answer::Done,
     }
 }
 
 // The reply to the Commit.
-fn committed(setting: &Setting, reply: ActorReply) -> Turn
-    requires { (pages : ℕ) (pieces : List SeenPiece) → Admits (work_of setting.now) (committing pages pieces) (seen_reply reply) }
+fn committed(setting: &Setting, answer: DeviceAnswer) -> Turn
+    requires { IsCommitted (devices.seen_reply answer) }
     ensures turn { IsTurn (work_of setting.now) result }
-    ensures next { (pages : ℕ) (pieces : List SeenPiece) → Next (work_of setting.now) (committing pages pieces) (seen_reply reply) (fetched_chunk reply) (need_of result.stage) }
+    ensures need { need_of result.stage ≡ ended (committed_answer (devices.seen_reply answer)) }
 {
-    match reply {
-        ActorReply::Device(DeviceAnswer::Committed(DeviceReply::Range)) => to_end(setting, Answer::Range),
-        _ => to_end(setting, Answer::Done),
+    match answer {
+        DeviceAnswer::Committed(reply) => to_end(setting, answer_to(reply)),
+        _ => unreachable!(),
     }
 }
 
@@ -432,9 +536,9 @@ pub(crate) fn advance(
     ensures few { IsFew (seen_reply reply) }
 {
     match stage {
-        Stage::Plans(call) => planned(alloc, setting, place, call, reply),
+        Stage::Plans(call) => planned(alloc, setting, place, call, of_device(reply)),
         Stage::Loads(fetching, waiting) => load_turn(alloc, setting, place, fetching, waiting, reply),
-        Stage::Commits(_, _) => committed(setting, reply),
+        Stage::Commits(_, _) => committed(setting, of_device(reply)),
         Stage::Drops(answer) => to_end(setting, answer),
         Stage::Ends(_) => unreachable!(),
     }
