@@ -8,3 +8,4 @@ pub mod Migrated
 pub mod Created
 pub mod Needs
 pub mod LoadTurns
+pub mod Steady

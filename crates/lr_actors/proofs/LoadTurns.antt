@@ -2,12 +2,14 @@
 use Rattle.std.proofs.Common.{◌≡◌, ℕ, List, refl, sym, ap, subst, ◌∙◌}
 use Rattle.lr_walk.specs.declared.place.LoadPlace.{LoadPlace}
 use Rattle.lr_walk.specs.Steps.{Reply, by_device, by_cache, by_node, by_depot}
-use Rattle.lr_walk.specs.Load.{Ending}
+use Rattle.lr_walk.specs.Load.{Ending, with_reply}
+use Rattle.lr_walk.specs.Depot as depots
 use Rattle.lr_walk.specs.Device as devices
 use Rattle.lr_loader.specs.Progress.{looking, asking, fetching, putting, filling, giving, ended, Asked, a_call, an_end, asked, AnswersAsked, Admits, Next}
 use Rattle.lr_loader.specs.Progress as loads
-use Rattle.lr_actors.specs.Serving.{Work, Chunk, Left, Need, loading, Loaded, LoadWent}
+use Rattle.lr_actors.specs.Serving.{Work, Chunk, Left, Need, loading, dropping, Loaded, LoadWent}
 use Rattle.lr_actors.specs.Stages.{IsOfLoad, IsLoadCall, IsUnderWay, EndsWell, GoesWell}
+use Rattle.lr_actors.specs.Lifted.{answer_to}
 use Rattle.lr_actors.proofs.Loads.{ended_at, under_way}
 
 no_device : (place : LoadPlace) (need : loads.Need) (reply : devices.Reply) → AnswersAsked (asked place need) (by_device reply) → ⊥
@@ -46,3 +48,9 @@ pub went_on : (w : Work) (chunk moved : Chunk) (left : Left) (place : LoadPlace)
     → new ≡ loading moved next left → LoadWent w chunk left next new
 went_on w chunk moved left place next a new e c same n =
     went_under_way w chunk left next new (goes_under_way place next a e c) (n ∙ ap (λ (q : Chunk). loading q next left) same)
+
+-- a failure of the depot drops the plan
+pub failed : (w : Work) (chunk : Chunk) (left : Left) (reply : depots.Reply) (new : Need) → EndsWell (with_reply reply) → new ≡ dropping (answer_to reply) → Loaded w chunk left (with_reply reply) new
+failed w chunk left (depots.fault key) new e n = n
+failed w chunk left (depots.spoiled key) new e n = n
+failed w chunk left reply new e n = absurd e

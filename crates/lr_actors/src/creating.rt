@@ -1,5 +1,5 @@
 //! A creation as a job.
-ghost use Rattle.std.specs.Prelude.{◌≡◌, ◌≤◌, ◌<◌, ◌%◌, ◌++◌, List, ℕ, [], true, false, length};
+ghost use Rattle.std.specs.Prelude.{◌≡◌, ◌≤◌, ◌<◌, ◌%◌, ◌+◌, ◌++◌, List, ℕ, [], true, false, length, take};
 ghost use Rattle.lr_walk.specs.declared.trail.Answer.{Answer as Ending};
 ghost use Rattle.lr_walk.specs.Steps.{Step, Reply};
 ghost use Rattle.lr_walk.specs.Depot.{Step as DepotStep};
@@ -77,6 +77,16 @@ fn piece_end(given: usize, whole: usize) -> usize
     whole
 }
 
+// The next piece.
+fn piece_of(raw: &[u8], given: usize, to: usize) -> &[u8]
+    requires from { given ≤ to }
+    requires to { to ≤ length raw.now }
+    ensures joined { take given raw.now ++ result.now ≡ take to raw.now }
+    ensures length { given + length result.now ≡ to }
+{
+    &raw[given..to]
+}
+
 // Gives the next piece, and tells how many bytes were given. Where no memory is found for it, the creation leaves.
 fn give_piece(alloc: Global, create: &mut Create, raw: &[u8], given: usize) -> usize
     requires wants { is_wanting create.old.need ≡ true }
@@ -89,7 +99,7 @@ fn give_piece(alloc: Global, create: &mut Create, raw: &[u8], given: usize) -> u
     ensures stands { (own : List DepotStep) → Stands (record { create = create.old; raw = raw.now; given = given }) own → Stands (record { create = create.new; raw = raw.now; given = result }) own }
 {
     let to = piece_end(given, raw.len());
-    let piece = &raw[given..to];
+    let piece = piece_of(raw, given, to);
     match create.give(alloc, piece) {
         Ok(()) => to,
         Err(_) => given,

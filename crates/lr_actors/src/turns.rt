@@ -1,5 +1,5 @@
 //! What a device call keeps between a call and its reply, and each turn from one stage to the next.
-ghost use Rattle.std.specs.Prelude.{◌≡◌, ◌⊎◌, ◌≤◌, ◌<◌, ◌+◌, ◌∷◌, ◌++◌, [], ℕ, List, length, map, drop, slice_get, Some, IfSome, IfNone};
+ghost use Rattle.std.specs.Prelude.{◌≡◌, ◌⊎◌, ◌≤◌, ◌<◌, ◌+◌, ◌∷◌, ◌++◌, [], ℕ, List, length, map, drop, slice_get, Some, IfSome, IfNone, false};
 ghost use Rattle.std.specs.Arc.{arc_value};
 ghost use Rattle.std.specs.List.{AllByRecursion};
 ghost use Rattle.lr_walk.specs.declared.trail.Answer.TheVariants.{Memory};
@@ -16,9 +16,9 @@ ghost use Rattle.lr_actors.specs.Serving.{planning, loading, committing, droppin
 ghost use Rattle.lr_actors.specs.Stages.{work_of, fetched_chunk, IsOfLoad, seen_left, left_after, seen_chunk, need_of, IsWork, EndsWell, GoesWell, IsLoadCall, IsWaiting, IsFetching, IsKept, IsTurn, IsFew, IsOfDevice, IsCommitted, committed_answer};
 
 use crate::action::{ActorCall, ActorReply, JobAction};
+use crate::depot_answer::answer_of_depot;
 use crate::place::DevicePlace;
 use lr_convergent::Piece;
-use lr_depot::DepotReply;
 use lr_device::{DeviceAnswer, DeviceCall, DeviceReply, DeviceStep, Needs, Room};
 use lr_loader::{Load, LoadAction, LoadEnd, LoadPlace, LoadReply};
 use lr_manifest::{Chunk, ChunkKey, Name};
@@ -395,9 +395,8 @@ fn load_ended(
 {
     match end {
         LoadEnd::Chunk(chunk) => brought(alloc, setting, place, index, key, waiting, chunk),
-        LoadEnd::Other(DepotReply::Fault(key)) => to_drop(setting, Answer::Fault(key)),
-        LoadEnd::Other(DepotReply::Spoiled(key)) => to_drop(setting, Answer::Spoiled(key)),
-        _ => to_drop(setting, Answer::Memory),
+        LoadEnd::Other(reply) => to_drop(setting, answer_of_depot(reply)),
+        LoadEnd::Memory => to_drop(setting, Answer::Memory),
     }
 }
 
