@@ -10,6 +10,7 @@ use Rattle.lr_walk.specs.declared.trail.Answer.TheVariants.{Forged, Memory}
 use Rattle.lr_walk.specs.Steps.{Reply, by_node, Step, step}
 use Rattle.lr_walk.specs.Damage.{IsForged, forged_so_far, PutsForged}
 use Rattle.lr_walk.specs.Node as nodes
+use Rattle.lr_walk.specs.Stands.{Stands}
 use Rattle.lr_walk.proofs.Stands.{made_walk}
 use Rattle.lr_actors.specs.Asked.{Asked, a_call, an_end, Adds}
 use Rattle.lr_actors.specs.Forging.{AreZeros, Target, Forging, Need, putting, ended, Progress, Rest, StandsFor, IsFront, put_of, asked, Admits, advanced, steps_left, Begins}
@@ -82,9 +83,9 @@ is_walk p steps answer e stands =
     made_walk (Forging p.target) (Rest p.target) p.need answer (subst (λ (q : Need). Rest p.target q [] answer) (sym (ends_at p.target p.need answer e)) (refl, refl)) steps stands
 
 -- a new forging stands for no step
-pub starts : (p : Progress) → Begins p.target p.need → StandsFor p []
-starts p (inl b) = λ tail ending r. inl (b.0 ∷ b.1, b.2, rest_at p.target p.need (putting b.0 b.1 Forged) b.3 tail ending r)
-starts p (inr e) = λ tail ending r. inr (rest_at p.target p.need (ended Memory) e tail ending r)
+pub starts : (t : Target) (need : Need) → Begins t need → Stands (Forging t) (Rest t) need []
+starts t need (inl b) = λ tail ending r. inl (b.0 ∷ b.1, b.2, rest_at t need (putting b.0 b.1 Forged) b.3 tail ending r)
+starts t need (inr e) = λ tail ending r. inr (rest_at t need (ended Memory) e tail ending r)
 
 pub nears : (need : Need) (reply : Reply) → Admits need reply → steps_left (advanced need reply) + 1 ≤ steps_left need
 nears (putting stripe [] answer) reply a = omega arith

@@ -4,6 +4,7 @@ use Rattle.lr_depot.specs.declared.call.DepotReply.TheVariants as depot
 use Rattle.lr_walk.specs.declared.trail.Answer.{Answer}
 use Rattle.lr_walk.specs.declared.trail.Answer.TheVariants.{Fault, Spoiled, Memory}
 use Rattle.lr_walk.specs.Walk.{Then}
+use Rattle.lr_walk.specs.Stands.{Stands}
 use Rattle.lr_walk.specs.Steps.{on_device, Reply, by_device, by_cache, by_node, by_depot, Step, step}
 use Rattle.lr_walk.specs.Load.{Ending, with_chunk, with_reply, with_memory}
 use Rattle.lr_walk.specs.Calls.{answer_of, Drops, LoadsAll}
@@ -151,12 +152,7 @@ load_can_end w chunk need left reply more a well adds =
     let e = load_ends w chunk left c.1 c.2 in (
       c.0 ++ e.0,
       e.1,
-      before (loads.asked chunk.place need) reply c.0,
-      e.0,
-      c.1,
-      joins (loads.asked chunk.place need) reply more adds (c.0 ++ e.0) c.0 e.0 refl,
-      c.3,
-      e.2,
+      (before (loads.asked chunk.place need) reply c.0, e.0, c.1, joins (loads.asked chunk.place need) reply more adds (c.0 ++ e.0) c.0 e.0 refl, c.3, e.2),
     )
 
 can_end : (w : Work) (need : Need) (reply : Reply) (more : List Step) → Admits w need reply → IsWell need → Adds (asked w need) reply more → CanEnd w need more
@@ -201,9 +197,9 @@ is_walk p steps answer e stands =
     made_walk (Serves p.work) (Rest p.work) p.need answer (subst (λ (q : Need). Rest p.work q [] answer) (sym (ends_at p.work p.need answer e)) (refl, refl)) steps stands
 
 -- a new call stands for no step
-pub starts : (p : Progress) → (p.need ≡ planning) ⊎ (p.need ≡ ended Memory) → StandsFor p []
-starts p (inl e) = λ tail ending r. rest_at p.work p.need planning e tail ending r
-starts p (inr e) = λ tail ending r. inr (rest_at p.work p.need (ended Memory) e tail ending r)
+pub starts : (w : Work) (need : Need) → (need ≡ planning) ⊎ (need ≡ ended Memory) → Stands (Serves w) (Rest w) need []
+starts w need (inl e) = λ tail ending r. rest_at w need planning e tail ending r
+starts w need (inr e) = λ tail ending r. inr (rest_at w need (ended Memory) e tail ending r)
 
 -- ---- each step but Busy brings the call nearer to its end
 

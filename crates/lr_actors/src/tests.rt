@@ -1,4 +1,4 @@
-//! Device calls over a cache, five nodes and a depot.
+//! Jobs over a cache, five nodes and a depot.
 use std::test::Fail;
 
 #[test]
