@@ -9,3 +9,4 @@ pub mod Created
 pub mod Needs
 pub mod LoadTurns
 pub mod Steady
+pub mod Table

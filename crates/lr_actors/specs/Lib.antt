@@ -11,3 +11,4 @@ pub mod Migrating
 pub mod Creating
 pub mod Jobs
 pub mod Records
+pub mod Damaged
