@@ -1,6 +1,9 @@
 -- a creation as a job: with each step the walk goes on
-use Rattle.std.proofs.Common.{◌≡◌, ◌⊎◌, inl, inr, ℕ, ◌+◌, ◌≤◌, ◌<◌, ◌%◌, List, [], ◌∷◌, ◌++◌, length, map, take, drop, Bool, true, false, refl, sym, ap, subst, ◌∙◌, arith, append_assoc, append-nil, take-append-drop, take_all}
+use Rattle.std.proofs.Common.{◌≡◌, ◌⊎◌, inl, inr, ℕ, ◌+◌, ◌≤◌, ◌<◌, ◌%◌, List, [], ◌∷◌, ◌++◌, length, map, take, drop, Bool, true, false, refl, sym, ap, subst, ◌∙◌, arith, append_assoc, append-nil, take-append-drop, take_all, ext_get_or}
 use Rattle.std.proofs.lemmas.List.{map-append}
+use Rattle.std.specs.Prelude.{slice_index}
+use Rattle.std.specs.List.{range_with_len}
+use Rattle.std.proofs.lemmas.List.FromFn.{length-map-range_with_len, get_or-map-range_with_len}
 use Rattle.std.proofs.lemmas.Bool.{false≢true}
 use Rattle.std.proofs.lemmas.List.Concat.{flat_map-append}
 use Rattle.lr_walk.specs.declared.trail.Answer.{Answer}
@@ -34,9 +37,11 @@ CanGive raw given = (more : List Input) × GivesAll raw (given ++ more)
 gives_rest : (p : Progress) (given : List Input) → Gives p given → CanGive p.raw given
 gives_rest p given (inl g) = (
   piece (drop p.given p.raw) ∷ last ∷ [],
-  g.0 ++ drop p.given p.raw ∷ [],
-  joined_more g.0 (drop p.given p.raw) ∙ ap (λ l. l ++ drop p.given p.raw) g.1 ∙ take-append-drop p.given p.raw,
-  ap (λ l. l ++ piece (drop p.given p.raw) ∷ last ∷ []) g.2 ∙ sym (append_assoc (map piece g.0) (piece (drop p.given p.raw) ∷ []) (last ∷ [])) ∙ ap (λ l. l ++ last ∷ []) (sym (pieces_more g.0 (drop p.given p.raw))),
+  (
+    g.0 ++ drop p.given p.raw ∷ [],
+    joined_more g.0 (drop p.given p.raw) ∙ ap (λ l. l ++ drop p.given p.raw) g.1 ∙ take-append-drop p.given p.raw,
+    ap (λ l. l ++ piece (drop p.given p.raw) ∷ last ∷ []) g.2 ∙ sym (append_assoc (map piece g.0) (piece (drop p.given p.raw) ∷ []) (last ∷ [])) ∙ ap (λ l. l ++ last ∷ []) (sym (pieces_more g.0 (drop p.given p.raw))),
+  ),
 )
 gives_rest p given (inr g) = ([], subst (GivesAll p.raw) (sym (append-nil given)) g.0)
 
@@ -158,12 +163,12 @@ takes_more old new c reply a follows takes feeds steps more adds l = absurd a
 -- ---- what is given
 
 wants_more : (need : Need) → creations.is_wanting need ≡ true → WantsNoMore need → ⊥
-wants_more (wanting place parts) w no = no
-wants_more (beginning image) w no = no
-wants_more (putting place parts name) w no = no
-wants_more (finishing place fields) w no = false≢true w
-wants_more (leaving session end) w no = false≢true w
-wants_more (ended end) w no = false≢true w
+wants_more (wanting place parts) w enough = enough
+wants_more (beginning image) w enough = enough
+wants_more (putting place parts name) w enough = enough
+wants_more (finishing place fields) w enough = absurd (false≢true w)
+wants_more (leaving session end) w enough = absurd (false≢true w)
+wants_more (ended end) w enough = absurd (false≢true w)
 
 -- what was given to a creation that wants more
 some_given : (p : Progress) → creations.is_wanting p.create.need ≡ true → (given : List Input) → Gives p given → GivesSome p.raw p.given given
@@ -192,10 +197,10 @@ gave_none old new same n keeps w own s =
 pub gave_last : (old new : Progress) → new.raw ≡ old.raw → old.given ≡ length old.raw → WantsNoMore new.create.need
     → ((given : List Input) (own : List depots.Step) → creations.Stands old.create given own → creations.Stands new.create (given ++ last ∷ []) own)
     → creations.is_wanting old.create.need ≡ true → Feeds old new
-gave_last old new same all no gives w own s =
+gave_last old new same all enough gives w own s =
     let g = some_given old w s.0 s.1 in (
       s.0 ++ last ∷ [],
-      inr ((g.0, g.1 ∙ take_all old.given old.raw (omega arith) ∙ sym same, ap (λ l. l ++ last ∷ []) g.2), no),
+      inr ((g.0, g.1 ∙ take_all old.given old.raw (omega arith) ∙ sym same, ap (λ l. l ++ last ∷ []) g.2), enough),
       gives s.0 own s.2,
     )
 
@@ -207,3 +212,9 @@ no_more_finished old new f = by old.tenant old.need new f
     by tenant (wanting place parts) new (inl e) = subst WantsNoMore (sym e) tt
     by tenant (wanting place parts) new (inr e) = subst WantsNoMore (sym e) tt
     by tenant need new f = absurd f
+
+-- bytes that are known one by one
+pub same_bytes : (xs : List ℕ) (f : ℕ → ℕ) (n : ℕ) → length xs ≡ n → ((k : ℕ) → k < n → slice_index xs k ≡ f (0 + k)) → xs ≡ map f (range_with_len 0 n)
+same_bytes xs f n e h =
+    ext_get_or 0 xs (map f (range_with_len 0 n)) (e ∙ sym (length-map-range_with_len f 0 n))
+    (λ i lt. let less : i < n = omega arith in h i less ∙ sym (get_or-map-range_with_len f 0 n i (0 + i) 0 less refl))

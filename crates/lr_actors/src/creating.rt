@@ -140,6 +140,27 @@ fn feed(alloc: Global, create: &mut Create, raw: &[u8], given: usize) -> usize
     given
 }
 
+// The creation takes the reply, and is given what it wants: tells how many bytes were given.
+fn go_on(
+    alloc: Global,
+    create: &mut Create,
+    raw: &Vec<u8>,
+    given: usize,
+    reply: ActorReply,
+) -> usize
+    requires handed { create.old.ready ≡ false }
+    requires admitted { Admits (record { create = create.old; raw = raw.now.items; given = given }) (seen_reply reply) }
+    requires steady { IsSteady (record { create = create.old; raw = raw.now.items; given = given }) }
+    ensures steady { IsSteady (record { create = create.new; raw = raw.now.items; given = result }) }
+    ensures same { (create.new.image ≡ create.old.image) × (create.new.tenant ≡ create.old.tenant) }
+    ensures ready { create.new.ready ≡ true }
+    ensures fed { is_wanting create.new.need ≡ false }
+    ensures stands { (steps more : List Step) → Adds (asked (record { create = create.old; raw = raw.now.items; given = given })) (seen_reply reply) more → StandsFor (record { create = create.old; raw = raw.now.items; given = given }) steps → StandsFor (record { create = create.new; raw = raw.now.items; given = result }) (steps ++ more) }
+{
+    create.take(alloc, of_depot(reply));
+    feed(alloc, create, raw.as_slice(), given)
+}
+
 impl CreatingJob {
     /// The creation of an image of these raw bytes, at most 10,737,418,240, whose keys are sealed for a tenant.
     pub fn new(
@@ -194,7 +215,6 @@ impl CreatingJob {
         ensures ready { self.new.create.ready ≡ true }
         ensures stands { (steps more : List Step) → Adds (asked self.old) (seen_reply reply) more → StandsFor self.old steps → StandsFor self.new (steps ++ more) }
     {
-        self.create.take(self.alloc, of_depot(reply));
-        self.given = feed(self.alloc, &mut self.create, self.raw.as_slice(), self.given);
+        self.given = go_on(self.alloc, &mut self.create, &self.raw, self.given, reply);
     }
 }
