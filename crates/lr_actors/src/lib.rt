@@ -1,8 +1,11 @@
 //! Actors: the jobs of a script as machines over devices, caches, nodes and a depot.
 //!
-//! `place` has what all actors share, `action` what a job asks and is told. `serving` is the machine of a device call and
-//! `turns` what it keeps between a call and its reply. In `specs/`, `Places` and `Asked` are the program's values as plain
-//! data, and `Serving` what contracts see of a device call under way.
+//! `place` has what all actors share, `action` what a job asks and is told. Each kind of job is a machine: `serving` a device
+//! call, with `turns` for what it keeps between a call and its reply; `single` an eviction, damage to one stripe or node, and the
+//! end of a lease; `forge` a forging; `collecting`, `migrating` and `creating` what the machines of the depot do, with `bytes` for
+//! what a script says of an image. `laws` ties each machine to its job. In `specs/`, `Jobs` is the table of jobs with the
+//! walk of each, `Records` what an actor's trail is, `Asked` what a job asks and what that adds to its steps, and `Serving`,
+//! `Singles`, `Forging`, `Lifted`, `Collecting`, `Migrating` and `Creating` what contracts see of each machine.
 #![tactic(auto)]
 
 mod action;
@@ -16,8 +19,6 @@ mod migrating;
 mod place;
 mod serving;
 mod single;
-#[cfg(test)]
-mod tests;
 mod turns;
 
 pub use action::{ActorCall, ActorReply, JobAction};
