@@ -10,3 +10,4 @@ pub mod Needs
 pub mod LoadTurns
 pub mod Steady
 pub mod Table
+pub mod Bounds

@@ -12,3 +12,4 @@ pub mod Creating
 pub mod Jobs
 pub mod Records
 pub mod Damaged
+pub mod Bounds

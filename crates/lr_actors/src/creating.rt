@@ -6,6 +6,7 @@ ghost use Rattle.lr_walk.specs.Depot.{Step as DepotStep};
 ghost use Rattle.lr_creator.specs.Progress.{start, is_wanting, Progress as Creation};
 ghost use Rattle.lr_creator.specs.Seen.{seen_end, seen_action};
 ghost use Rattle.lr_actors.specs.Asked.{Hands, MayBeMade, seen_reply, an_end, Adds};
+ghost use Rattle.lr_actors.specs.Bounds.{steps_left};
 ghost use Rattle.lr_actors.specs.Creating.{created, Makes, Stands, StandsFor, IsFront, IsSteady, IsSame, EndsDone, asked_by, asked, Admits};
 
 use crate::action::{ActorCall, ActorReply, JobAction};
@@ -19,7 +20,7 @@ use std::marker::Model;
 
 /// A creation as a job under way: it is given the raw bytes, a chunk at a time.
 ///
-/// A contract sees the creation, the bytes, and how many of them it was given.
+/// A contract sees the creation, the bytes, and how many of them it was given. Of c chunks it makes at most c + 3 steps.
 #[derive(Drop)]
 pub struct CreatingJob {
     alloc: Global,
@@ -97,6 +98,7 @@ fn give_piece(alloc: Global, create: &mut Create, raw: &[u8], given: usize) -> u
     ensures ready { create.new.ready ≡ true }
     ensures fed { is_wanting create.new.need ≡ false }
     ensures stands { (own : List DepotStep) → Stands (record { create = create.old; raw = raw.now; given = given }) own → Stands (record { create = create.new; raw = raw.now; given = result }) own }
+    ensures nears { steps_left (record { create = create.new; raw = raw.now; given = result }) ≤ steps_left (record { create = create.old; raw = raw.now; given = given }) }
 {
     let to = piece_end(given, raw.len());
     let piece = piece_of(raw, given, to);
@@ -116,6 +118,7 @@ fn give_last(alloc: Global, create: &mut Create, raw: &[u8], given: usize)
     ensures ready { create.new.ready ≡ true }
     ensures fed { is_wanting create.new.need ≡ false }
     ensures stands { (own : List DepotStep) → Stands (record { create = create.old; raw = raw.now; given = given }) own → Stands (record { create = create.new; raw = raw.now; given = given }) own }
+    ensures nears { steps_left (record { create = create.new; raw = raw.now; given = given }) ≤ steps_left (record { create = create.old; raw = raw.now; given = given }) }
 {
     create.last(alloc);
 }
@@ -129,6 +132,7 @@ fn feed(alloc: Global, create: &mut Create, raw: &[u8], given: usize) -> usize
     ensures ready { create.new.ready ≡ true }
     ensures fed { is_wanting create.new.need ≡ false }
     ensures stands { (own : List DepotStep) → Stands (record { create = create.old; raw = raw.now; given = given }) own → Stands (record { create = create.new; raw = raw.now; given = result }) own }
+    ensures nears { steps_left (record { create = create.new; raw = raw.now; given = result }) ≤ steps_left (record { create = create.old; raw = raw.now; given = given }) }
 {
     if !create.wants() {
         return given;
@@ -156,6 +160,7 @@ fn go_on(
     ensures ready { create.new.ready ≡ true }
     ensures fed { is_wanting create.new.need ≡ false }
     ensures stands { (steps more : List Step) → Adds (asked (record { create = create.old; raw = raw.now.items; given = given })) (seen_reply reply) more → StandsFor (record { create = create.old; raw = raw.now.items; given = given }) steps → StandsFor (record { create = create.new; raw = raw.now.items; given = result }) (steps ++ more) }
+    ensures nears { steps_left (record { create = create.new; raw = raw.now.items; given = result }) + 1 ≤ steps_left (record { create = create.old; raw = raw.now.items; given = given }) }
 {
     create.take(alloc, of_depot(reply));
     feed(alloc, create, raw.as_slice(), given)
@@ -214,6 +219,7 @@ impl CreatingJob {
         ensures same { IsSame self.old self.new }
         ensures ready { self.new.create.ready ≡ true }
         ensures stands { (steps more : List Step) → Adds (asked self.old) (seen_reply reply) more → StandsFor self.old steps → StandsFor self.new (steps ++ more) }
+        ensures nears { steps_left self.new + 1 ≤ steps_left self.old }
     {
         self.given = go_on(self.alloc, &mut self.create, &self.raw, self.given, reply);
     }

@@ -1,4 +1,4 @@
-//! A law, as the contract of a function that does nothing: what a machine's end makes a walk of is its job.
+//! Laws, as contracts of functions that do nothing: what machines stand for at their ends are walks of jobs, and migrations end.
 ghost use Rattle.std.specs.Prelude.{◌≡◌, ℕ, List, [], Some, None, slice_get};
 ghost use Rattle.lr_manifest.specs.declared.name.Name.{Name};
 ghost use Rattle.lr_device.specs.declared.call.DeviceCall.{DeviceCall};
@@ -17,6 +17,9 @@ ghost use Rattle.lr_actors.specs.Collecting.{Collecting};
 ghost use Rattle.lr_actors.specs.Migrating.{Migrating};
 ghost use Rattle.lr_actors.specs.Creating.{Creating};
 ghost use Rattle.lr_actors.specs.Jobs.{Job, calls, creates, migrates, collects, closes, evicts, drops_stripe, flips_stripe, forges, loses, WalksJob};
+ghost use Rattle.lr_walk.specs.Depot.{Reply as DepotReply};
+ghost use Rattle.lr_migrator.specs.Progress as migrations;
+ghost use Rattle.lr_actors.specs.Bounds.{MovesNear};
 ghost use Rattle.lr_actors.specs.Damaged.{IsAt, IsDamage};
 
 /// Of the jobs that call a device or the depot.
@@ -37,4 +40,9 @@ pub fn damages_are_jobs()
     ensures flips { (context : Context) (index device chunk at : ℕ) (place : DevicePlace) (name : Name) (steps : List Step) (answer : Answer) → IsAt context device place → slice_get place.names chunk ≡ Some name → MakesOne (Flip (node_at name index context.nodes) name index at) steps answer → WalksJob context (flips_stripe index device chunk at) steps answer }
     ensures forges { (context : Context) (device chunk : ℕ) (place : DevicePlace) (name : Name) (steps : List Step) (answer : Answer) → IsAt context device place → slice_get place.names chunk ≡ Some name → Forging (record { nodes = context.nodes; name = name }) steps answer → WalksJob context (forges device chunk) steps answer }
     ensures past { (context : Context) (device chunk : ℕ) (place : DevicePlace) (job : Job) → IsAt context device place → slice_get place.names chunk ≡ None → IsDamage device chunk job → WalksJob context job [] NoChunk }
+{}
+
+/// A migration of c chunks makes at most 2c + 3 steps: its beginning, two for each chunk, and two more.
+pub fn migrations_near_their_end()
+    ensures { (p : migrations.Progress) (reply : DepotReply) → migrations.Admits p reply → MovesNear p.need reply }
 {}

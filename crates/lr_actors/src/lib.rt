@@ -5,7 +5,8 @@
 //! end of a lease; `forge` a forging; `collecting`, `migrating` and `creating` what the machines of the depot do, with `bytes` for
 //! what a script says of an image. `laws` ties each machine to its job. In `specs/`, `Jobs` is the table of jobs with the
 //! walk of each, `Records` what an actor's trail is, `Asked` what a job asks and what that adds to its steps, and `Serving`,
-//! `Singles`, `Forging`, `Lifted`, `Collecting`, `Migrating` and `Creating` what contracts see of each machine.
+//! `Singles`, `Forging`, `Lifted`, `Collecting`, `Migrating` and `Creating` what contracts see of each machine. `Bounds` says how
+//! many steps the jobs of the depot make.
 #![tactic(auto)]
 
 mod action;
@@ -25,7 +26,7 @@ pub use action::{ActorCall, ActorReply, JobAction};
 pub use collecting::CollectingJob;
 pub use creating::CreatingJob;
 pub use forge::ForgeJob;
-pub use laws::{calls_are_jobs, damages_are_jobs};
+pub use laws::{calls_are_jobs, damages_are_jobs, migrations_near_their_end};
 pub use migrating::MigratingJob;
 pub use place::{Context, DevicePlace, Parts};
 pub use serving::DeviceJob;

@@ -1,4 +1,6 @@
-use Rattle.std.proofs.Common.{◌≡◌, ◌≤◌, ◌<◌, ◌+◌, refl, sym, subst, length, arith}
+use Rattle.std.proofs.Common.{◌-◌, refl, sym, length, arith}
+use Rattle.lr_actors.specs.Bounds.{chunks}
+use Rattle.lr_actors.proofs.Bounds.{piece_left, short_left}
 use Rattle.lr_actors.proofs.Created.{gave_piece, gave_none}
 use Rattle.lr_actors.proofs.Steady.{is_piece, gave_fed, short_fed, gave_steady, short_steady}
 use Rattle.lr_actors.proofs.creating.give_piece.Goals as goal
@@ -29,3 +31,11 @@ returns-in-Err-clause-fed c = short_fed c.args.create.now.need c.give.new.self.n
 pub returns-in-Err-clause-stands : goal.returns-in-Err-clause-stands
 returns-in-Err-clause-stands c =
     gave_none (record { create = c.args.create.now; raw = c.args.raw.now; given = c.args.given }) (record { create = c.give.new.self; raw = c.args.raw.now; given = c.args.given }) refl refl c.in-Err.ensures.keeps c.requires.wants
+
+pub returns-in-Ok-clause-nears : goal.returns-in-Ok-clause-nears
+returns-in-Ok-clause-nears c =
+    piece_left c.args.create.now.need c.give.new.self.need c.piece_of-piece.result.now (length c.args.raw.now) c.args.given c.piece_end-to.result c.in-Ok.ensures.gave c.piece_end-to.ensures.more c.piece_end-to.ensures.most
+    c.piece_end-to.ensures.within c.piece_end-to.ensures.chunk
+
+pub returns-in-Err-clause-nears : goal.returns-in-Err-clause-nears
+returns-in-Err-clause-nears c = short_left c.args.create.now.need c.give.new.self.need (chunks (length c.args.raw.now - c.args.given)) c.in-Err.ensures.short
