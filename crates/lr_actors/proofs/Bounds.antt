@@ -1,6 +1,5 @@
 -- the jobs of the depot come nearer to their ends
-use Rattle.std.proofs.Common.{◌≡◌, ◌⊎◌, inl, inr, ℕ, zero, suc, ◌+◌, ◌-◌, ◌*◌, ◌/◌, ◌≤◌, ◌<◌, List, length, true, false, refl, sym, ap, subst, ◌∙◌, arith}
-use Rattle.std.proofs.lemmas.Bool.{false≢true}
+use Rattle.std.proofs.Common.{◌≡◌, inl, inr, ℕ, zero, suc, ◌+◌, ◌-◌, ◌*◌, ◌≤◌, ◌<◌, List, length, refl, sym, subst, arith}
 use Rattle.lr_walk.specs.Depot.{Reply, moving, copied, kept, moved, memory, began, made}
 use Rattle.lr_migrator.specs.Progress as migrations
 use Rattle.lr_creator.specs.Progress as creations

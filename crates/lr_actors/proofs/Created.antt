@@ -1,5 +1,5 @@
 -- a creation as a job: with each step the walk goes on
-use Rattle.std.proofs.Common.{◌≡◌, ◌⊎◌, inl, inr, ℕ, ◌+◌, ◌≤◌, ◌<◌, ◌%◌, List, [], ◌∷◌, ◌++◌, length, map, take, drop, Bool, true, false, refl, sym, ap, subst, ◌∙◌, arith, append_assoc, append-nil, take-append-drop, take_all, ext_get_or}
+use Rattle.std.proofs.Common.{◌≡◌, inl, inr, ℕ, ◌+◌, ◌<◌, List, [], ◌∷◌, ◌++◌, length, map, take, drop, true, refl, sym, ap, subst, ◌∙◌, arith, append_assoc, append-nil, take-append-drop, take_all, ext_get_or}
 use Rattle.std.proofs.lemmas.List.{map-append}
 use Rattle.std.specs.Prelude.{slice_index}
 use Rattle.std.specs.List.{range_with_len}
@@ -7,19 +7,17 @@ use Rattle.std.proofs.lemmas.List.FromFn.{length-map-range_with_len, get_or-map-
 use Rattle.std.proofs.lemmas.Bool.{false≢true}
 use Rattle.std.proofs.lemmas.List.Concat.{flat_map-append}
 use Rattle.lr_walk.specs.declared.trail.Answer.{Answer}
-use Rattle.lr_walk.specs.Walk.{Walks}
 use Rattle.lr_walk.specs.Stands as stands
 use Rattle.lr_walk.specs.Steps.{Reply, by_depot, Step}
 use Rattle.lr_walk.specs.Depot.{began, kept, made, memory, abandoned, begins, puts_chunk, puts_manifest, abandons}
 use Rattle.lr_walk.specs.Depot as depots
 use Rattle.lr_creator.specs.declared.create.Place.{Place}
-use Rattle.lr_creator.specs.Creation.{Ending, with_root, with_reply, with_memory, Input, piece, last, Parts, Leaves, Puts, Creates}
+use Rattle.lr_creator.specs.Creation.{Ending, with_memory, Input, piece, last, Parts, Leaves, Puts}
 use Rattle.lr_creator.specs.Progress.{Need, beginning, wanting, putting, finishing, leaving, ended, Rest, Asked, a_call, an_end, no_call, with_step, advanced, AnswersAsked}
 use Rattle.lr_creator.specs.Progress as creations
 use Rattle.lr_creator.specs.Seen.{Finished, FinishedAt}
 use Rattle.lr_creator.proofs.Creations as creation_walks
 use Rattle.lr_actors.specs.Asked as job
-use Rattle.lr_actors.specs.Lifted.{Lifted}
 use Rattle.lr_actors.specs.Creating.{created, joined, GivesAll, GivesSome, CreatesAll, EndsDone, Progress, WantsNoMore, Gives, Stands, StandsFor, Makes, IsFront, asked_by, asked, Admits}
 use Rattle.lr_actors.proofs.Lifting.{lifted_walk, lifted_more, lifted_front}
 

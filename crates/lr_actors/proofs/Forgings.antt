@@ -1,6 +1,6 @@
 -- a forging's steps: with each one the walk goes on
-use Rattle.std.proofs.Common.{◌≡◌, ◌⊎◌, inl, inr, ℕ, zero, suc, replicate, ◌+◌, ◌≤◌, List, [], ◌∷◌, ◌++◌, length, arith, refl, sym, ap, subst, ◌∙◌, append_assoc}
-use Rattle.std.specs.List.{AllByRecursion, AllZip}
+use Rattle.std.proofs.Common.{◌≡◌, inl, inr, ℕ, zero, suc, replicate, ◌+◌, ◌≤◌, List, [], ◌∷◌, ◌++◌, length, arith, refl, sym, subst, ◌∙◌, append_assoc}
+use Rattle.std.specs.List.{AllByRecursion}
 use Rattle.lr_manifest.specs.declared.name.Name.{Name}
 use Rattle.lr_stripe.specs.Code.{IsStripe}
 use Rattle.lr_stripe.specs.Good.{IsGood}
@@ -12,7 +12,7 @@ use Rattle.lr_walk.specs.Damage.{IsForged, forged_so_far, PutsForged}
 use Rattle.lr_walk.specs.Node as nodes
 use Rattle.lr_walk.specs.Stands.{Stands}
 use Rattle.lr_walk.proofs.Stands.{made_walk}
-use Rattle.lr_actors.specs.Asked.{Asked, a_call, an_end, Adds}
+use Rattle.lr_actors.specs.Asked.{an_end, Adds}
 use Rattle.lr_actors.specs.Forging.{AreZeros, Target, Forging, Need, putting, ended, Progress, Rest, StandsFor, IsFront, put_of, asked, Admits, advanced, steps_left, Begins}
 
 rest_at : (t : Target) (new wanted : Need) → new ≡ wanted → (tail : List Step) (ending : Answer) → Rest t new tail ending → Rest t wanted tail ending

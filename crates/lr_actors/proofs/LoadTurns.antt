@@ -1,5 +1,5 @@
 -- a load's turns in a device call
-use Rattle.std.proofs.Common.{◌≡◌, ℕ, List, refl, sym, ap, subst, ◌∙◌}
+use Rattle.std.proofs.Common.{◌≡◌, sym, ap, subst, ◌∙◌}
 use Rattle.lr_walk.specs.declared.place.LoadPlace.{LoadPlace}
 use Rattle.lr_walk.specs.Steps.{Reply, by_device, by_cache, by_node, by_depot}
 use Rattle.lr_walk.specs.Load.{Ending, with_reply}

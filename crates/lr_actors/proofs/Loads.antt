@@ -1,7 +1,6 @@
 -- loads: from each need and after each reply the walk can be ended, and it ends well
 use Rattle.std.proofs.Common.{◌≡◌, inl, inr, ℕ, zero, suc, ◌-◌, List, [], ◌∷◌, Bool, true, false, MatchBool, refl, sym, subst}
 use Rattle.lr_stripe.specs.declared.stripe.Stripe.{Stripe}
-use Rattle.lr_depot.specs.declared.call.DepotReply.TheVariants as depot
 use Rattle.lr_walk.specs.declared.place.LoadPlace.{LoadPlace}
 use Rattle.lr_walk.specs.Walk.{Walks, Choose}
 use Rattle.lr_walk.specs.Steps.{Call, Reply, by_cache, by_node, by_depot, Step, step, Answers, Asks}
@@ -9,7 +8,7 @@ use Rattle.lr_walk.specs.Load.{Ending, with_chunk, with_reply, with_memory, look
 use Rattle.lr_walk.specs.Depot as depots
 use Rattle.lr_walk.specs.Cache as caches
 use Rattle.lr_walk.specs.Node as nodes
-use Rattle.lr_loader.specs.Progress.{Need, looking, asking, fetching, putting, filling, giving, ended, Rest, Asked, a_call, an_end, asked, Admits, Rebuilt, AfterGet, Next}
+use Rattle.lr_loader.specs.Progress.{Need, looking, asking, fetching, putting, filling, giving, ended, Rest, an_end, asked, Admits, Rebuilt, AfterGet, Next}
 use Rattle.lr_loader.proofs.Walks.{before, IsTold, goes_on}
 use Rattle.lr_actors.specs.Serving.{HasLease}
 use Rattle.lr_actors.specs.Stages.{EndsWell, GoesWell, IsUnderWay, IsLoadCall}

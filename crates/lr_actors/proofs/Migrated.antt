@@ -1,7 +1,7 @@
 -- a migration as a job: with each step the walk goes on
-use Rattle.std.proofs.Common.{◌≡◌, List, [], ◌∷◌, ◌++◌, map, refl, sym, ap, subst}
+use Rattle.std.proofs.Common.{◌≡◌, List, ◌++◌, refl}
 use Rattle.lr_walk.specs.declared.trail.Answer.{Answer}
-use Rattle.lr_walk.specs.Steps.{Reply, by_device, by_cache, by_node, by_depot, Step}
+use Rattle.lr_walk.specs.Steps.{Reply, by_depot, Step}
 use Rattle.lr_walk.specs.Stands as stands
 use Rattle.lr_walk.specs.Depot as depots
 use Rattle.lr_migrator.specs.Migration.{Ending, Migrates}

@@ -7,7 +7,7 @@ use Rattle.lr_walk.specs.Cache as caches
 use Rattle.lr_walk.specs.Node as nodes
 use Rattle.lr_actors.specs.declared.single.Single.{Single}
 use Rattle.lr_actors.specs.declared.single.Single.TheVariants as one
-use Rattle.lr_actors.specs.Asked.{Asked, a_call, an_end, Adds}
+use Rattle.lr_actors.specs.Asked.{a_call, an_end, Adds}
 use Rattle.lr_actors.specs.Singles.{MakesOne, call_of, answer_of, Need, asking, ended, Progress, Stands, StandsFor, IsFront, asked, AdmitsOne, Admits, advanced}
 
 one_step : (single : Single) (reply : Reply) → AdmitsOne single reply → MakesOne single (step (call_of single) reply ∷ []) (answer_of reply)

@@ -5,7 +5,7 @@ use Rattle.lr_walk.specs.declared.trail.Answer.{Answer}
 use Rattle.lr_walk.specs.declared.trail.Answer.TheVariants.{Fault, Spoiled, Memory}
 use Rattle.lr_walk.specs.Walk.{Then}
 use Rattle.lr_walk.specs.Stands.{Stands}
-use Rattle.lr_walk.specs.Steps.{on_device, Reply, by_device, by_cache, by_node, by_depot, Step, step}
+use Rattle.lr_walk.specs.Steps.{on_device, Reply, by_device, by_cache, Step, step}
 use Rattle.lr_walk.specs.Load.{Ending, with_chunk, with_reply, with_memory}
 use Rattle.lr_walk.specs.Calls.{answer_of, Drops, LoadsAll}
 use Rattle.lr_walk.specs.Depot as depots
@@ -17,8 +17,8 @@ use Rattle.lr_loader.proofs.Walks.{before, Goes, IsTold}
 use Rattle.lr_loader.proofs.Walks as loading_walks
 use Rattle.lr_actors.specs.declared.action.ActorReply.{ActorReply}
 use Rattle.lr_actors.specs.declared.action.ActorReply.TheVariants as by
-use Rattle.lr_actors.specs.Asked.{Asked, a_call, a_commit, an_end, no_call, Adds, seen_reply}
-use Rattle.lr_actors.specs.Serving.{Work, Serves, Chunk, Left, Need, planning, loading, committing, dropping, ended, Progress, with_piece, AfterLoad, Rest, StandsFor, IsFront, asked_by, asked, Admits, IsShort, GoesOn, Loaded, LoadWent, Next, steps_left, Nears}
+use Rattle.lr_actors.specs.Asked.{an_end, Adds, seen_reply}
+use Rattle.lr_actors.specs.Serving.{Work, Serves, Chunk, Left, Need, planning, loading, committing, dropping, ended, Progress, with_piece, AfterLoad, Rest, StandsFor, IsFront, asked_by, asked, Admits, GoesOn, Loaded, LoadWent, Next, steps_left, Nears}
 use Rattle.lr_actors.specs.Stages.{IsFew, EndsWell, GoesWell, IsWell, fetched_chunk}
 use Rattle.lr_actors.proofs.Loads.{can_go}
 

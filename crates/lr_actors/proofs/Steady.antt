@@ -1,7 +1,6 @@
 -- a creation that is given its bytes stays steady
-use Rattle.std.proofs.Common.{◌≡◌, ◌⊎◌, inl, inr, ℕ, ◌+◌, ◌%◌, ◌≤◌, ◌<◌, List, length, Bool, true, false, refl, sym, ap, subst, ◌∙◌, arith}
+use Rattle.std.proofs.Common.{◌≡◌, inl, inr, ℕ, ◌+◌, ◌≤◌, ◌<◌, List, length, true, false, sym, ap, subst, arith}
 use Rattle.std.proofs.lemmas.Bool.{false≢true}
-use Rattle.lr_walk.specs.Steps.{Reply, by_depot}
 use Rattle.lr_walk.specs.Depot.{began, kept, made, memory}
 use Rattle.lr_walk.specs.Depot as depots
 use Rattle.lr_creator.specs.Creation.{IsPiece}

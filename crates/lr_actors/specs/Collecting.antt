@@ -1,5 +1,5 @@
 -- A collection as a job.
-use Rattle.std.specs.Prelude.{List, ⊤}
+use Rattle.std.specs.Prelude.{List}
 use Rattle.lr_walk.specs.declared.trail.Answer.{Answer}
 use Rattle.lr_walk.specs.declared.trail.Answer.TheVariants.{Swept, Memory}
 use Rattle.lr_walk.specs.Walk.{Walks}

@@ -1,12 +1,12 @@
 -- A creation as a job, of the bytes that a script says.
-use Rattle.std.specs.Prelude.{◌≡◌, ◌⊎◌, ◌≤◌, ◌<◌, ◌-◌, ◌%◌, ℕ, List, [], ◌∷◌, ◌++◌, length, map, take, replicate, Bool, true, ⊤}
+use Rattle.std.specs.Prelude.{◌≡◌, ◌⊎◌, ◌≤◌, ◌<◌, ◌-◌, ◌%◌, ℕ, List, [], ◌∷◌, ◌++◌, length, map, take, replicate, ⊤}
 use Rattle.std.specs.List.{flat_map, range_with_len}
 use Rattle.lr_text.specs.Bytes.{bytes_of_runs}
 use Rattle.lr_gen.specs.Bytes.{seed_byte}
 use Rattle.lr_script.specs.Seen.{BodySeen, Runs, Seed}
 use Rattle.lr_walk.specs.declared.trail.Answer.{Answer}
 use Rattle.lr_walk.specs.declared.trail.Answer.TheVariants.{Created, Memory}
-use Rattle.lr_walk.specs.Walk.{Walks, Or, Ends}
+use Rattle.lr_walk.specs.Walk.{Walks}
 use Rattle.lr_walk.specs.Stands as stands
 use Rattle.lr_walk.specs.Steps.{on_depot, Reply, by_depot, Step}
 use Rattle.lr_walk.specs.Depot as depots

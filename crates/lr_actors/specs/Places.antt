@@ -1,5 +1,5 @@
 -- What all actors share, as plain data.
-use Rattle.std.specs.Prelude.{◌≡◌, ℕ, List, map, length}
+use Rattle.std.specs.Prelude.{◌≡◌, ℕ, List, length}
 use Rattle.std.specs.Arc.{arc_value}
 use Rattle.lr_manifest.specs.declared.name.ChunkKey.{ChunkKey}
 use Rattle.lr_walk.specs.Calls.{DevicePlace}

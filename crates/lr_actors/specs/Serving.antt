@@ -1,5 +1,5 @@
 -- A device call under way, as contracts see it.
-use Rattle.std.specs.Prelude.{◌≡◌, ◌⊎◌, ◌≤◌, ◌<◌, ◌+◌, ◌*◌, ℕ, List, [], ◌∷◌, ◌++◌, length, Bool, true, Some, slice_get, ⊤}
+use Rattle.std.specs.Prelude.{◌≡◌, ◌⊎◌, ◌≤◌, ◌<◌, ◌+◌, ◌*◌, ℕ, List, [], ◌∷◌, ◌++◌, length, Bool, Some, slice_get, ⊤}
 use Rattle.std.specs.List.{AllByRecursion}
 use Rattle.lr_manifest.specs.declared.name.Name.{Name}
 use Rattle.lr_device.specs.declared.call.DeviceCall.{DeviceCall}
@@ -16,7 +16,7 @@ use Rattle.lr_walk.specs.Depot as depots
 use Rattle.lr_walk.specs.Cache as caches
 use Rattle.lr_walk.specs.Device as devices
 use Rattle.lr_loader.specs.Progress as loads
-use Rattle.lr_actors.specs.Asked.{Asked, a_call, a_commit, an_end, no_call, Adds}
+use Rattle.lr_actors.specs.Asked.{Asked, a_call, a_commit, an_end, no_call}
 
 -- a call of a device at its place, among so many nodes
 pub record Work : Type 0 where

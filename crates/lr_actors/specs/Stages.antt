@@ -1,14 +1,14 @@
 -- What the machine of a device call keeps.
-use Rattle.std.specs.Prelude.{◌≡◌, ◌≤◌, ◌+◌, ℕ, List, [], length, map, drop, Bool, true, false, Option, Some, None, ⊤}
+use Rattle.std.specs.Prelude.{◌≡◌, ◌≤◌, ◌+◌, ℕ, List, [], length, map, drop, false, Option, Some, None, ⊤}
 use Rattle.std.specs.List.{AllByRecursion}
 use Rattle.std.specs.Arc.{arc_value}
 use Rattle.lr_depot.specs.declared.call.DepotReply.TheVariants as depot
 use Rattle.lr_device.specs.PlainDevice.{size_of}
-use Rattle.lr_walk.specs.Steps.{Reply, by_device, by_cache, by_node, by_depot}
-use Rattle.lr_walk.specs.Load.{Ending, with_chunk, with_reply, with_memory}
+use Rattle.lr_walk.specs.Steps.{Reply, by_device}
+use Rattle.lr_walk.specs.Load.{Ending, with_reply}
 use Rattle.lr_walk.specs.declared.trail.Answer.{Answer}
 use Rattle.lr_walk.specs.declared.trail.Answer.TheVariants.{Memory}
-use Rattle.lr_walk.specs.Calls.{DevicePlace, answer_of}
+use Rattle.lr_walk.specs.Calls.{answer_of}
 use Rattle.lr_walk.specs.Depot as depots
 use Rattle.lr_walk.specs.Device as devices
 use Rattle.lr_loader.specs.Progress as loads
@@ -22,7 +22,7 @@ use Rattle.lr_actors.specs.declared.turns.Waiting.{Waiting}
 use Rattle.lr_actors.specs.declared.turns.Fetching.{Fetching}
 use Rattle.lr_actors.specs.declared.turns.Setting.{Setting}
 use Rattle.lr_actors.specs.Places.{seen_place, IsPlace}
-use Rattle.lr_actors.specs.Asked.{Asked, Hands, MayBeMade}
+use Rattle.lr_actors.specs.Asked.{Hands, MayBeMade}
 use Rattle.lr_actors.specs.Serving.{Work, Chunk, Left, Need, planning, loading, committing, dropping, ended, HasChunk, asked}
 
 -- what a device call is of

@@ -168,12 +168,7 @@ fn go_on(
 
 impl CreatingJob {
     /// The creation of an image of these raw bytes, at most 10,737,418,240, whose keys are sealed for a tenant.
-    pub fn new(
-        alloc: Global,
-        image: ImageName,
-        tenant: TenantKey,
-        raw: Vec<u8>,
-    ) -> CreatingJob
+    pub fn new(alloc: Global, image: ImageName, tenant: TenantKey, raw: Vec<u8>) -> CreatingJob
         requires { length raw.items ≤ 10737418240 }
         ensures new { result ≡ record { create = start image tenant.bytes; raw = raw.items; given = 0 } }
         ensures stands { StandsFor result [] }

@@ -90,12 +90,7 @@ fn under(stripe: Stripe, _zeros: &Chunk, name: &Name, _index: u8) -> Stripe
 }
 
 // A forged stripe.
-fn forged(
-    alloc: Global,
-    zeros: &Chunk,
-    name: &Name,
-    index: u8,
-) -> Result<Arc<Stripe>, OutOfMemory>
+fn forged(alloc: Global, zeros: &Chunk, name: &Name, index: u8) -> Result<Arc<Stripe>, OutOfMemory>
     requires index { index < 5 }
     requires zeros { AreZeros zeros.now }
     ensures { IfOk result (λ s. IsForged name.now index (arc_value s)) }
@@ -200,9 +195,7 @@ fn advance(nodes: u32, name: &Name, stage: ForgeStage, reply: ActorReply) -> For
     ensures next { need_of result.stage ≡ advanced (need_of stage) (seen_reply reply) }
 {
     match stage {
-        ForgeStage::Puts(_, more, answer) => {
-            put(nodes, name, more, answer_after(answer, reply))
-        }
+        ForgeStage::Puts(_, more, answer) => { put(nodes, name, more, answer_after(answer, reply)) }
         ForgeStage::Ends(_) => unreachable!(),
     }
 }

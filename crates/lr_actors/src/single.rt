@@ -18,9 +18,15 @@ use std::snapshot::Snapshot;
 #[derive(Clone, Copy)]
 pub enum Single {
     /// A host's cache is emptied.
-    Evict { host: u32 },
+    Evict {
+        host: u32,
+    },
     /// A stripe is dropped by its node.
-    Drop { node: u32, name: Name, index: u8 },
+    Drop {
+        node: u32,
+        name: Name,
+        index: u8,
+    },
     /// A bit of a stripe's byte at a place below 131,072 is changed.
     Flip {
         node: u32,
@@ -29,9 +35,13 @@ pub enum Single {
         at: u32,
     },
     /// A node loses its stripes.
-    Lose { node: u32 },
+    Lose {
+        node: u32,
+    },
     /// A lease ends.
-    Close { lease: u64 },
+    Close {
+        lease: u64,
+    },
 }
 
 #[derive(Drop)]

@@ -536,7 +536,9 @@ pub(crate) fn advance(
 {
     match stage {
         Stage::Plans(call) => planned(alloc, setting, place, call, of_device(reply)),
-        Stage::Loads(fetching, waiting) => load_turn(alloc, setting, place, fetching, waiting, reply),
+        Stage::Loads(fetching, waiting) => load_turn(
+            alloc, setting, place, fetching, waiting, reply,
+        ),
         Stage::Commits(_, _) => committed(setting, of_device(reply)),
         Stage::Drops(answer) => to_end(setting, answer),
         Stage::Ends(_) => unreachable!(),

@@ -1,5 +1,4 @@
 use Rattle.std.proofs.Common.{◌∙◌, ap, refl}
-use Rattle.lr_actors.specs.Serving.{loading}
 use Rattle.lr_actors.specs.Places.{seen_place}
 use Rattle.lr_actors.specs.Stages.{work_of, left_after, seen_left}
 use Rattle.lr_actors.proofs.Needs.{loads_next}
