@@ -1,0 +1,13 @@
+pub mod Loads
+pub mod Served
+pub mod OneCall
+pub mod Forgings
+pub mod Lifting
+pub mod Collected
+pub mod Migrated
+pub mod Created
+pub mod Needs
+pub mod LoadTurns
+pub mod Steady
+pub mod Table
+pub mod Bounds

@@ -1,0 +1,15 @@
+pub mod Places
+pub mod Asked
+pub mod Serving
+pub mod Stages
+pub mod Singles
+pub mod Kept
+pub mod Forging
+pub mod Lifted
+pub mod Collecting
+pub mod Migrating
+pub mod Creating
+pub mod Jobs
+pub mod Records
+pub mod Damaged
+pub mod Bounds
