@@ -2,7 +2,9 @@
 #![tactic(auto)]
 
 mod outcome;
+mod roots;
 mod words;
 
 pub use outcome::{Outcome, Refusal};
+pub use roots::view_text;
 pub use words::{Command, command_of};
