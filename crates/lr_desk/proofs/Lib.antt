@@ -1,1 +1,4 @@
+mod Carrying
+mod Gathering
+mod Logs
 mod Viewing

@@ -1,3 +1,5 @@
+pub mod Drive
+pub mod Ends
 pub mod Outcome
 pub mod Roots
 pub mod Words

@@ -1,10 +1,14 @@
 //! The commands over a store: each is one machine driven over a depot, or a text of the depot's view.
 #![tactic(auto)]
 
+mod collecting;
+mod moving;
 mod outcome;
 mod roots;
 mod words;
 
+pub use collecting::collect;
+pub use moving::migrate;
 pub use outcome::{Outcome, Refusal};
 pub use roots::view_text;
 pub use words::{Command, command_of};
