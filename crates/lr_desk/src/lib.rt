@@ -2,6 +2,7 @@
 #![tactic(auto)]
 
 mod collecting;
+mod ends;
 mod moving;
 mod outcome;
 mod roots;

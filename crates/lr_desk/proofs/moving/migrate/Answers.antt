@@ -7,7 +7,7 @@ use Rattle.lr_desk.proofs.Carrying.{carries_start, moved_of, no_fault}
 use Rattle.lr_desk.proofs.moving.migrate.Goals as goal
 
 pub turn-requires : goal.turn-requires
-turn-requires g c = ap (λ (p : Progress). p.ready) c.new-machine.ensures.new
+turn-requires g c = record { ready = ap (λ (p : Progress). p.ready) c.new-machine.ensures.new }
 
 pub returns-in-Some-clause-walk : goal.returns-in-Some-clause-walk
 returns-in-Some-clause-walk g c =
@@ -18,13 +18,13 @@ pub returns-in-Some-clause-cause : goal.returns-in-Some-clause-cause
 returns-in-Some-clause-cause g c = λ h.
     absurd (no_fault c.args.image c.new-machine.result c.new-machine.ensures.new (c.in-Some.ensures.cause.0 h))
 
-pub returns-in-None-clause-walk : goal.returns-in-None-clause-walk
-returns-in-None-clause-walk g c =
+pub returns-clause-walk : goal.returns-clause-walk
+returns-clause-walk g c =
     moved_of c.args.depot.now.log c.move_on.new.depot.log c.args.image c.turn.new.machine.image (seen_end c.move_on.result) (c.in-None.ensures.image ∙ ap (λ (p : Progress). p.image) c.new-machine.ensures.new)
     (c.move_on.ensures.walk c.args.depot.now.log (c.in-None.ensures.drives c.args.depot.now.log (carries_start c.args.depot.now.log c.new-machine.result c.new-machine.ensures.stands)))
 
-pub returns-in-None-clause-cause : goal.returns-in-None-clause-cause
-returns-in-None-clause-cause g c = λ h.
+pub returns-clause-cause : goal.returns-clause-cause
+returns-clause-cause g c = λ h.
     elim (c.move_on.ensures.cause h) [
       | inl f ↦ elim (c.in-None.ensures.cause f) [
         | inl old ↦ absurd (no_fault c.args.image c.new-machine.result c.new-machine.ensures.new old)
