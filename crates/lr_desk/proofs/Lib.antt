@@ -2,3 +2,4 @@ mod Carrying
 mod Gathering
 mod Logs
 mod Viewing
+mod Walking

@@ -1,5 +1,5 @@
 -- How a walk ends a command: the outcome of each reply, and the text that is written.
-use Rattle.std.specs.Prelude.{◌≡◌, ℕ, List, [], ◌++◌, codes, decimal, Result, Ok, Err, Vec, Option, ⊤}
+use Rattle.std.specs.Prelude.{◌≡◌, ◌⊎◌, ℕ, List, [], ◌++◌, codes, decimal, Result, Ok, Err, Vec, Option, ⊤}
 use Rattle.std.specs.declared.alloc.Global.{Global}
 use Rattle.lr_io.specs.Streams.{Appends, AppendsFront}
 use Rattle.lr_roots.specs.View.{View}
@@ -72,13 +72,15 @@ outcome_moved moves.with_memory = Memory
 
 abbrev pub text_moved : moves.Ending → List ℕ
 text_moved (moves.with_roots from to) = codes "moved " ++ (decimal from ++ (codes " " ++ (decimal to ++ codes "\n")))
-text_moved end = []
+text_moved (moves.with_reply reply) = text_of reply
+text_moved moves.with_memory = []
 
 -- The log is the walk of a migration, which has this outcome and this text.
 abbrev pub Moved : List ℕ → List LogEntry → Outcome → List ℕ → Type 0
 Moved image log o text = (end : moves.Ending) × HasMoved [] image log end × (o ≡ outcome_moved end) × (text ≡ text_moved end)
 
--- The log is the command's walk, which has this outcome and this text. The view is that of the start.
+-- The log is the command's walk, which has this outcome and this text. The view is that of the start: `roots` makes no call, and
+-- finds memory for the view's text or doesn't.
 abbrev pub HasWalked : Command → View → List LogEntry → Outcome → List ℕ → Type 0
 HasWalked (command.Rotate bytes) v log o text = Collected (job.Rotate bytes) log o text
 HasWalked (command.Migrate image) v log o text = Moved image log o text
@@ -86,7 +88,7 @@ HasWalked (command.Withdraw image) v log o text = Collected (job.Withdraw image)
 HasWalked (command.Expire root) v log o text = Collected (job.Expire root) log o text
 HasWalked (command.Delete root) v log o text = Collected (job.Delete root) log o text
 HasWalked (command.Sweep root) v log o text = Collected (job.Sweep root) log o text
-HasWalked command.Roots v log o text = (log ≡ []) × (o ≡ Done) × IsViewText v text
+HasWalked command.Roots v log o text = (log ≡ []) × (((o ≡ Done) × IsViewText v text) ⊎ (o ≡ Memory))
 
 -- Another outcome than the walk's: only want of memory, where the walk did the command.
 abbrev pub IsOther : Outcome → Outcome → Type 0
@@ -113,3 +115,12 @@ IsFinish o text before after e = (e ≡ o) × (after ≡ before)
 -- A command that ran over a depot: its log is the walk, and it ended so.
 abbrev pub HasRun : Command → View → List LogEntry → Option (List ℕ) → Option (List ℕ) → Outcome → Type 0
 HasRun c v log before after e = (o : Outcome) × (text : List ℕ) × HasWalked c v log o text × IsFinish o text before after e
+
+-- an outcome that a walk may have
+abbrev pub IsWalkOutcome : Outcome → Type 0
+IsWalkOutcome Done = ⊤
+IsWalkOutcome OriginFault = ⊤
+IsWalkOutcome Memory = ⊤
+IsWalkOutcome (Refused r) = ⊤
+IsWalkOutcome (Spoiled key) = ⊤
+IsWalkOutcome o = ⊥

@@ -2,6 +2,7 @@
 #![tactic(auto)]
 
 mod collecting;
+mod commands;
 mod ends;
 mod moving;
 mod outcome;

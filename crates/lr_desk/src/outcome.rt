@@ -5,7 +5,6 @@ ghost use Rattle.lr_desk.specs.Outcome.{status_of, line_of, words_of, shown, pri
 use itoa::Buffer;
 use lr_io::Line;
 use lr_origin::{ImageName, Key};
-use lr_spec::OutOfMemory;
 
 /// Why a command was refused.
 #[derive(Drop)]
@@ -65,16 +64,6 @@ pub enum Outcome {
     Spoiled(Key),
     /// The store has 4,294,967,296 keys or more.
     TooMany,
-}
-
-impl From<OutOfMemory> for Outcome {
-    ghost use Rattle.lr_desk.specs.declared.outcome.Outcome.TheVariants.{Memory};
-
-    ghost from_gives = { λ _ o. o ≡ Memory };
-
-    fn from(_: OutOfMemory) -> Self {
-        Outcome::Memory
-    }
 }
 
 // The most bytes of a key that a line shows.

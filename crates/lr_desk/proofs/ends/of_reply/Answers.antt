@@ -34,6 +34,6 @@ other r a b c d e f g h i j k l m n o p q s t = refl
 
 pub returns-in_default : goal.returns-in_default
 returns-in_default c =
-    other c.args.reply c.in_default.not-Rotated c.in_default.not-Withdrawn c.in_default.not-Expired c.in_default.not-Deleted c.in_default.not-Fault c.in_default.not-Spoiled c.in_default.not-NoImage c.in_default.not-NoRoot
+    other c.args.reply.now c.in_default.not-Rotated c.in_default.not-Withdrawn c.in_default.not-Expired c.in_default.not-Deleted c.in_default.not-Fault c.in_default.not-Spoiled c.in_default.not-NoImage c.in_default.not-NoRoot
     c.in_default.not-Taken c.in_default.not-Full c.in_default.not-RootsEnd c.in_default.not-Overtaken c.in_default.not-NotRetiredHome c.in_default.not-NotRetired c.in_default.not-NotExpired c.in_default.not-NotDeleted
     c.in_default.not-Serves c.in_default.not-Session c.in_default.not-Doubt
