@@ -1,5 +1,6 @@
 mod Carrying
 mod Gathering
 mod Logs
+mod Telling
 mod Viewing
 mod Walking

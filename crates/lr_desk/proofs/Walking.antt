@@ -168,3 +168,6 @@ no_write_fault c v log e w same = by (other_is w.0 e w.3)
     by : (e ≡ w.0) ⊎ ((w.0 ≡ Done) × (e ≡ Memory)) → ⊥
     by (inl is) = subst IsWalkOutcome (sym is ∙ same) (walked_kind c v log w.0 w.1 w.2)
     by (inr none) = let t : Memory ≡ WriteFault = sym none.1 ∙ same in cc
+
+pub not_origin : (before after : Option (List ℕ)) (text : List ℕ) (e : Outcome) → IsWritten before text after e → e ≡ OriginFault → ⊥
+not_origin before after text e w s = subst (λ q. IsWritten before text after q) s w

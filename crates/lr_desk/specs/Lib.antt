@@ -1,3 +1,4 @@
+pub mod Causes
 pub mod Drive
 pub mod Ends
 pub mod Outcome

@@ -4,12 +4,14 @@
 mod collecting;
 mod commands;
 mod ends;
+mod laws;
 mod moving;
 mod outcome;
 mod roots;
 mod words;
 
 pub use collecting::collect;
+pub use laws::logs_tell_of_outcomes;
 pub use moving::migrate;
 pub use outcome::{Outcome, Refusal};
 pub use roots::view_text;
