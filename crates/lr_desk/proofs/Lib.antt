@@ -1,3 +1,4 @@
+mod Answering
 mod Carrying
 mod Gathering
 mod Logs

@@ -1,6 +1,7 @@
 -- what the entries of a walk tell of
 use Rattle.std.proofs.Common.{◌≡◌, ℕ, zero, suc, List, [], ◌∷◌, ◌++◌, map, length, Option, Some, None, refl, ap, subst, sym, ◌∙◌, inl, inr}
 use Rattle.std.specs.Prelude.{◌⊎◌}
+use Rattle.lr_spec.specs.Rose.{next_count}
 use Rattle.lr_roots.specs.View.{View}
 use Rattle.lr_roots.specs.Names.{IsOneOf}
 use Rattle.lr_depot.specs.Machine.{LogEntry}
@@ -140,13 +141,13 @@ next_not more r tail end w b = w
 removes_finds : (root count left : ℕ) → Finds outcome_at (Removes root count left)
 removes_finds root count zero = finds_asks outcome_at (sweeps root) (after_last count) (λ r tail end a w b. inl (last_finds count r tail end w b))
 removes_finds root count (suc left) =
-    finds_asks outcome_at (sweeps root) _ (λ r tail end a w b. inr (removes_finds root _ left tail end (next_in _ r tail end w) b))
+    finds_asks outcome_at (sweeps root) _ (λ r tail end a w b. inr (removes_finds root (next_count count) left tail end (next_in _ r tail end w) b))
 
 removes_sticks : (root count left : ℕ) → Sticks outcome_at (Removes root count left)
 removes_sticks root count zero =
     sticks_asks outcome_at (sweeps root) (after_last count) (λ r tail end a w b. last_sticks count r tail end w b) (λ r tail end a w s i b. absurd (not_in tail s (last_none count r tail end w) i))
 removes_sticks root count (suc left) =
-    sticks_asks outcome_at (sweeps root) _ (λ r tail end a w b. absurd (next_not _ r tail end w b)) (λ r tail end a w s i b. removes_sticks root _ left tail end (next_in _ r tail end w) s i b)
+    sticks_asks outcome_at (sweeps root) _ (λ r tail end a w b. absurd (next_not _ r tail end w b)) (λ r tail end a w s i b. removes_sticks root (next_count count) left tail end (next_in _ r tail end w) s i b)
 
 collects_finds : (j : CollectJob) → Finds outcome_at (Collects j)
 collects_finds (job.Rotate bytes) = one_finds (call_of (job.Rotate bytes))
@@ -205,12 +206,21 @@ module _ (session : ℕ) where
   finishes_sticks : Sticks outcome_moved (moves.Finishes session)
   finishes_sticks = sticks_asks outcome_moved (finishes_move session) (moves.after_finish session) (λ r tail end a w b. finish_one r tail end w b) (λ r tail end a w s i b. finish_rest r tail end w s i b)
 
-  module _ (more : Walks Step moves.Ending) (finds : Finds outcome_moved more) (sticks : Sticks outcome_moved more) where
+  module _ (more : Walks Step moves.Ending) (finds : Finds outcome_moved more) where
     put_finds : (r : Reply) (tail : List Step) (end : moves.Ending) → moves.after_put session more r tail end → IsDepots (outcome_moved end) → (outcome_of r ≡ outcome_moved end) ⊎ FindsIn outcome_moved tail (outcome_moved end)
     put_finds kept tail end w b = inr (finds tail end w b)
     put_finds memory tail end w b = absurd (subst (λ e. IsDepots (outcome_moved e)) (left_end session moves.with_memory end tail w) b)
     put_finds r tail end w b = inl (ap outcome_moved (sym (left_end session (moves.with_reply r) end tail w)))
 
+    puts_finds : (name : List ℕ) → Finds outcome_moved (moves.PutsOne session name more)
+    puts_finds name = finds_asks outcome_moved (puts_chunk session name) (moves.after_put session more) (λ r tail end a w b. put_finds r tail end w b)
+
+    copy_finds : (r : Reply) (tail : List Step) (end : moves.Ending) → moves.after_copy session more r tail end → IsDepots (outcome_moved end) → (outcome_of r ≡ outcome_moved end) ⊎ FindsIn outcome_moved tail (outcome_moved end)
+    copy_finds (copied name) tail end w b = inr (puts_finds name tail end w b)
+    copy_finds memory tail end w b = absurd (subst (λ e. IsDepots (outcome_moved e)) (left_end session moves.with_memory end tail w) b)
+    copy_finds r tail end w b = inl (ap outcome_moved (sym (left_end session (moves.with_reply r) end tail w)))
+
+  module _ (more : Walks Step moves.Ending) (sticks : Sticks outcome_moved more) where
     put_one : (r : Reply) (tail : List Step) (end : moves.Ending) → moves.after_put session more r tail end → IsDepots (outcome_of r) → outcome_moved end ≡ outcome_of r
     put_one kept tail end w b = absurd b
     put_one memory tail end w b = absurd b
@@ -221,16 +231,8 @@ module _ (session : ℕ) where
     put_rest memory tail end w s i b = left_sticks session moves.with_memory tail end w s i b
     put_rest r tail end w s i b = left_sticks session (moves.with_reply r) tail end w s i b
 
-    puts_finds : (name : List ℕ) → Finds outcome_moved (moves.PutsOne session name more)
-    puts_finds name = finds_asks outcome_moved (puts_chunk session name) (moves.after_put session more) (λ r tail end a w b. put_finds r tail end w b)
-
     puts_sticks : (name : List ℕ) → Sticks outcome_moved (moves.PutsOne session name more)
     puts_sticks name = sticks_asks outcome_moved (puts_chunk session name) (moves.after_put session more) (λ r tail end a w b. put_one r tail end w b) (λ r tail end a w s i b. put_rest r tail end w s i b)
-
-    copy_finds : (r : Reply) (tail : List Step) (end : moves.Ending) → moves.after_copy session more r tail end → IsDepots (outcome_moved end) → (outcome_of r ≡ outcome_moved end) ⊎ FindsIn outcome_moved tail (outcome_moved end)
-    copy_finds (copied name) tail end w b = inr (puts_finds name tail end w b)
-    copy_finds memory tail end w b = absurd (subst (λ e. IsDepots (outcome_moved e)) (left_end session moves.with_memory end tail w) b)
-    copy_finds r tail end w b = inl (ap outcome_moved (sym (left_end session (moves.with_reply r) end tail w)))
 
     copy_one : (r : Reply) (tail : List Step) (end : moves.Ending) → moves.after_copy session more r tail end → IsDepots (outcome_of r) → outcome_moved end ≡ outcome_of r
     copy_one (copied name) tail end w b = absurd b
@@ -243,16 +245,17 @@ module _ (session : ℕ) where
     copy_rest r tail end w s i b = left_sticks session (moves.with_reply r) tail end w s i b
 
   copies_finds : (index left : ℕ) → Finds outcome_moved (moves.Copies session index left)
-  copies_sticks : (index left : ℕ) → Sticks outcome_moved (moves.Copies session index left)
   copies_finds index zero = finishes_finds
   copies_finds index (suc left) =
       finds_asks outcome_moved (copies session index) (moves.after_copy session (moves.Copies session (suc index) left))
-      (λ r tail end a w b. copy_finds (moves.Copies session (suc index) left) (copies_finds (suc index) left) (copies_sticks (suc index) left) r tail end w b)
+      (λ r tail end a w b. copy_finds (moves.Copies session (suc index) left) (copies_finds (suc index) left) r tail end w b)
+
+  copies_sticks : (index left : ℕ) → Sticks outcome_moved (moves.Copies session index left)
   copies_sticks index zero = finishes_sticks
   copies_sticks index (suc left) =
       sticks_asks outcome_moved (copies session index) (moves.after_copy session (moves.Copies session (suc index) left))
-      (λ r tail end a w b. copy_one (moves.Copies session (suc index) left) (copies_finds (suc index) left) (copies_sticks (suc index) left) r tail end w b)
-      (λ r tail end a w s i b. copy_rest (moves.Copies session (suc index) left) (copies_finds (suc index) left) (copies_sticks (suc index) left) r tail end w s i b)
+      (λ r tail end a w b. copy_one (moves.Copies session (suc index) left) (copies_sticks (suc index) left) r tail end w b)
+      (λ r tail end a w s i b. copy_rest (moves.Copies session (suc index) left) (copies_sticks (suc index) left) r tail end w s i b)
 
 begin_finds : (r : Reply) (tail : List Step) (end : moves.Ending) → moves.after_begin r tail end → IsDepots (outcome_moved end) → (outcome_of r ≡ outcome_moved end) ⊎ FindsIn outcome_moved tail (outcome_moved end)
 begin_finds (moving session from to fields) tail end w b = inr (copies_finds session 0 (length fields.names) tail end w b)

@@ -4,6 +4,8 @@ use Rattle.lr_spec.specs.Rose.{Rose}
 use Rattle.lr_spec.specs.Told.{Told}
 use Rattle.lr_origin.specs.Objects.{Objects}
 use Rattle.lr_roots.specs.Names.{IsOneOf}
+use Rattle.lr_opening.specs.declared.cause.StartCause.{StartCause}
+use Rattle.lr_opening.specs.declared.cause.StartCause.TheVariants as cause
 use Rattle.lr_opening.specs.Cause.{IsRead}
 use Rattle.lr_opening.specs.Listing.{HasFewer, HasMany}
 use Rattle.lr_opening.specs.Store.{IsForeignKey, IsSoundStore}
@@ -53,6 +55,14 @@ Comes m (Foreign key) = Told m.objects (λ os. IsForeignKey os key.items × HasF
 Comes m (Spoiled key) = Tells m.log (Spoiled key) ⊎ (IsRead key × Told m.objects (λ os. ⊥))
 Comes m TooMany = Told m.objects (λ os. HasMany os (2 ^ 32))
 
+-- how a command ends whose depot didn't start
+abbrev pub cause_of : StartCause → Outcome
+cause_of (cause.Fault key) = OriginFault
+cause_of (cause.Spoiled key) = Spoiled key
+cause_of (cause.Foreign key) = Foreign key
+cause_of cause.TooMany = TooMany
+cause_of cause.OutOfMemory = Memory
+
 -- how a store with a foreign key ends a command
 abbrev pub IsForeignEnd : Objects → Outcome → Type 0
 IsForeignEnd os (Foreign key) = IsForeignKey os key.items
@@ -91,8 +101,8 @@ Completes m o =
 -- The answer to what was met: an outcome with its status and line, its cause, and where it must come.
 pub record IsAnswered (m : Met) (status : ℕ) (line : List ℕ) : Type 0 where
   pub outcome : Outcome
-  pub status : status ≡ status_of outcome
-  pub line : line ≡ line_of outcome
+  pub gave : status ≡ status_of outcome
+  pub says : line ≡ line_of outcome
   pub comes : Comes m outcome
   pub exact : IsExact m outcome
   pub complete : Completes m outcome

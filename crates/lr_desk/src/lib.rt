@@ -2,12 +2,12 @@
 #![tactic(auto)]
 
 mod collecting;
-mod commands;
 mod ends;
 mod laws;
 mod moving;
 mod outcome;
 mod roots;
+mod running;
 mod words;
 
 pub use collecting::collect;
@@ -15,4 +15,5 @@ pub use laws::logs_tell_of_outcomes;
 pub use moving::migrate;
 pub use outcome::{Outcome, Refusal};
 pub use roots::view_text;
+pub use running::{Done, commands};
 pub use words::{Command, command_of};

@@ -3,7 +3,7 @@ use Rattle.lr_depot.specs.Machine.{LogEntry}
 use Rattle.lr_depot.specs.Depot.{state}
 use Rattle.lr_desk.specs.Roots.{IsViewText}
 use Rattle.lr_desk.specs.declared.outcome.Outcome.TheVariants.{Done, Memory}
-use Rattle.lr_desk.proofs.commands.listed.Goals as goal
+use Rattle.lr_desk.proofs.running.listed.Goals as goal
 
 pub returns-in-Ok : goal.returns-in-Ok
 returns-in-Ok g c =

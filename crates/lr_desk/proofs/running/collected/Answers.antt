@@ -1,6 +1,6 @@
 use Rattle.lr_collector.specs.Seen.{seen_end}
 use Rattle.lr_desk.proofs.Walking.{collection_fault, collected_of}
-use Rattle.lr_desk.proofs.commands.collected.Goals as goal
+use Rattle.lr_desk.proofs.running.collected.Goals as goal
 
 pub returns-clause-walk : goal.returns-clause-walk
 returns-clause-walk g c =

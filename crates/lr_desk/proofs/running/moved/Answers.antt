@@ -1,6 +1,6 @@
 use Rattle.lr_migrator.specs.Seen.{seen_end}
 use Rattle.lr_desk.proofs.Walking.{migration_fault, moved_of}
-use Rattle.lr_desk.proofs.commands.moved.Goals as goal
+use Rattle.lr_desk.proofs.running.moved.Goals as goal
 
 pub returns-clause-walk : goal.returns-clause-walk
 returns-clause-walk g c =

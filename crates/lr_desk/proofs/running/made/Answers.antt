@@ -1,4 +1,4 @@
-use Rattle.lr_desk.proofs.commands.made.Goals as goal
+use Rattle.lr_desk.proofs.running.made.Goals as goal
 
 pub returns-in-Rotate-clause-walk : goal.returns-in-Rotate-clause-walk
 returns-in-Rotate-clause-walk g c = rw c.in-Rotate.is c.collected.ensures.walk

@@ -1,5 +1,5 @@
 use Rattle.lr_desk.proofs.Walking.{ran_other, ran_text, no_write_fault, not_origin}
-use Rattle.lr_desk.proofs.commands.run.Goals as goal
+use Rattle.lr_desk.proofs.running.run.Goals as goal
 
 pub returns-in-Err-clause-ran : goal.returns-in-Err-clause-ran
 returns-in-Err-clause-ran g c =
