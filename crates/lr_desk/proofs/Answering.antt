@@ -1,5 +1,5 @@
 -- the answer of a command
-use Rattle.std.proofs.Common.{◌≡◌, ◌≤◌, ◌+◌, ◌^◌, ℕ, List, [], ◌∷◌, ◌++◌, Option, Some, None, Bool, true, false, cond, refl, ap, subst, sym, ◌∙◌, inl, inr, arith}
+use Rattle.std.proofs.Common.{◌≡◌, ◌≢◌, ◌≤◌, ◌+◌, ◌^◌, ℕ, List, [], ◌∷◌, ◌++◌, Option, Some, None, Bool, true, false, cond, refl, ap, subst, sym, ◌∙◌, inl, inr, arith}
 use Rattle.std.specs.Prelude.{◌⊎◌}
 use Rattle.lr_spec.specs.Rose.{Rose}
 use Rattle.lr_spec.specs.Told.{Told}
@@ -142,6 +142,14 @@ module _ (m : Met) (c : StartCause) (is : IsCause m.objects m.origin_before m.or
     complete = cause_complete c is;
   }
 
+-- neither done nor a fault of the sink
+pub cause_status : (c : StartCause) → (status_of (cause_of c) ≢ 0) × (status_of (cause_of c) ≢ 5)
+cause_status (cause.Fault key) = (λ e. absurd (omega (arith, e)), λ e. absurd (omega (arith, e)))
+cause_status (cause.Spoiled key) = (λ e. absurd (omega (arith, e)), λ e. absurd (omega (arith, e)))
+cause_status (cause.Foreign key) = (λ e. absurd (omega (arith, e)), λ e. absurd (omega (arith, e)))
+cause_status cause.TooMany = (λ e. absurd (omega (arith, e)), λ e. absurd (omega (arith, e)))
+cause_status cause.OutOfMemory = (λ e. absurd (omega (arith, e)), λ e. absurd (omega (arith, e)))
+
 pub answered_usage : (m : Met) (status : ℕ) (line : List ℕ) → m.log ≡ [] → ¬ (AreWords m.words) → status ≡ status_of Usage → line ≡ line_of Usage → IsAnswered m status line
 answered_usage m status line none not gave says = record {
   outcome = Usage;
@@ -283,11 +291,11 @@ count_cons x xs false is = rw is (omega arith)
 fault_in : (log : List LogEntry) (e : LogEntry) → IsOneOf log e → is_fault e ≡ true → 1 ≤ fault_count log
 fault_in [] e none is = absurd none
 fault_in (x ∷ xs) e (inl s) is = let n = count_cons x xs true (subst (λ (q : LogEntry). is_fault q ≡ true) s is) in omega (arith, n)
-fault_in (x ∷ xs) e (inr i) is = by (is_fault x) refl
+fault_in (x ∷ xs) e (inr i) is = by (is_fault x) refl (fault_in xs e i is)
   where
-    by : (b : Bool) → is_fault x ≡ b → 1 ≤ fault_count (x ∷ xs)
-    by true b = let n = count_cons x xs true b in omega (arith, n)
-    by false b = let n = count_cons x xs false b in let more = fault_in xs e i is in omega (arith, n, more)
+    by : (b : Bool) → is_fault x ≡ b → 1 ≤ fault_count xs → 1 ≤ fault_count (x ∷ xs)
+    by true b more = let n = count_cons x xs true b in omega (arith, n)
+    by false b more = let n = count_cons x xs false b in omega (arith, n, more)
 
 fault_told : (t : DepotTold) → outcome_of (seen_told t) ≡ OriginFault → tells_fault t ≡ true
 fault_told (told.Fault k) e = refl

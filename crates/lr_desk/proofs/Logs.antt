@@ -57,7 +57,7 @@ goes_more_at true call reply base log after steps e (entry, grew, caller, enters
       own = g.own ++ entry ∷ [];
       after = grew ∙ (ap (λ l. l ++ entry ∷ []) g.after ∙ append_assoc base g.own (entry ∷ []));
       steps_of = map_more g.own entry ∙ ((λ i. g.steps_of i ++ entry_step call reply entry enters i ∷ [])
-      ∙ (ap (λ l. logged steps ++ l) (sym (kept_if reply (step (seen_call call) (seen_reply reply)) e)) ∙ sym (logged_more steps (step (seen_call call) (seen_reply reply)))));
+          ∙ (ap (λ l. logged steps ++ l) (sym (kept_if reply (step (seen_call call) (seen_reply reply)) e)) ∙ sym (logged_more steps (step (seen_call call) (seen_reply reply)))));
       callers = all_more g.own entry g.callers caller;
     }
 goes_more_at false call reply base log after steps e same g =
@@ -65,7 +65,7 @@ goes_more_at false call reply base log after steps e same g =
       own = g.own;
       after = same ∙ g.after;
       steps_of = g.steps_of ∙ (sym (append-nil (logged steps))
-      ∙ (ap (λ l. logged steps ++ l) (sym (left_if reply (step (seen_call call) (seen_reply reply)) e)) ∙ sym (logged_more steps (step (seen_call call) (seen_reply reply)))));
+          ∙ (ap (λ l. logged steps ++ l) (sym (left_if reply (step (seen_call call) (seen_reply reply)) e)) ∙ sym (logged_more steps (step (seen_call call) (seen_reply reply)))));
       callers = g.callers;
     }
 

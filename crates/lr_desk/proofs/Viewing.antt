@@ -52,9 +52,11 @@ no_roots v old = ([], refl, sym (append-nil old))
 
 pub one_root : (v : View) (n next : ℕ) (old mid new : List ℕ) → next ≡ n + 1 → Adds (AreRootLines v n) old mid → Adds (IsRootLine v next) mid new → Adds (AreRootLines v next) old new
 one_root v n next old mid new e (front, lines, a) (line, is, b) =
-    let s : next ≡ suc n = e ∙ add-one n in
-    (front ++ line, subst (λ m. AreRootLines v m (front ++ line)) (sym s) (front, line, lines, subst (λ m. IsRootLine v m line) s is, refl),
-      b ∙ ap (λ l. l ++ line) a ∙ append_assoc old front line)
+    let s : next ≡ suc n = e ∙ add-one n in (
+      front ++ line,
+      subst (λ m. AreRootLines v m (front ++ line)) (sym s) (front, line, lines, subst (λ m. IsRootLine v m line) s is, refl),
+      b ∙ ap (λ l. l ++ line) a ∙ append_assoc old front line,
+    )
 
 pub all_roots : (v : View) (n end : ℕ) (old new : List ℕ) → IsTop v n → end ≡ n → Adds (AreRootLines v end) old new → Adds (IsRootsPart v) old new
 all_roots v n end old new top e (text, lines, a) = (text, (n, top, subst (λ m. AreRootLines v m text) e lines), a)

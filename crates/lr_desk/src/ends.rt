@@ -83,7 +83,9 @@ fn of_reply(alloc: Global, reply: &DepotReply) -> Result<Vec<u8>, Outcome>
         DepotReply::Full => Err(Outcome::Refused(Refusal::Full)),
         DepotReply::RootsEnd => Err(Outcome::Refused(Refusal::RootsEnd)),
         DepotReply::Overtaken { home } => Err(Outcome::Refused(Refusal::Overtaken(*home))),
-        DepotReply::NotRetiredHome { home } => Err(Outcome::Refused(Refusal::NotRetiredHome(*home))),
+        DepotReply::NotRetiredHome { home } => Err(Outcome::Refused(Refusal::NotRetiredHome(
+            *home,
+        ))),
         DepotReply::NotRetired => Err(Outcome::Refused(Refusal::NotRetired)),
         DepotReply::NotExpired => Err(Outcome::Refused(Refusal::NotExpired)),
         DepotReply::NotDeleted => Err(Outcome::Refused(Refusal::NotDeleted)),

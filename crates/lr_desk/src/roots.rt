@@ -125,11 +125,7 @@ fn put_homed(
 }
 
 // Adds the line of an image, where it has a home.
-fn put_image(
-    out: &mut Vec<u8>,
-    catalog: &Catalog,
-    image: &ImageName,
-) -> Result<(), OutOfMemory>
+fn put_image(out: &mut Vec<u8>, catalog: &Catalog, image: &ImageName) -> Result<(), OutOfMemory>
     requires { IsSound catalog.now.view }
     ensures { OnOk result ((IsHomeless catalog.now.view image.now × (out.new.items ≡ out.old.items)) ⊎ Adds (IsImageLine catalog.now.view image.now) out.old.items out.new.items) }
 {

@@ -1,5 +1,5 @@
 //! The commands.
-ghost use Rattle.std.specs.Prelude.{◌≡◌, ◌≤◌, ℕ, List, [], Err, IsTrue, false, map, string_bytes};
+ghost use Rattle.std.specs.Prelude.{◌≡◌, ◌≢◌, ◌≤◌, ℕ, List, [], Err, IsTrue, false, map, string_bytes};
 ghost use Rattle.lr_spec.specs.Rose.{Rose};
 ghost use Rattle.lr_depot.specs.Depot.{IsStart};
 ghost use Rattle.lr_desk.specs.declared.outcome.Outcome.{Outcome as Any};
@@ -193,7 +193,7 @@ pub fn commands<O: Origin, I: Source, W: Sink>(
     ensures answered { IsAnswered (record { words = map string_bytes words.now; objects = O.objects origin; origin_before = O.faults origin; origin_after = O.faults result.origin; sink_before = W.faults sink.old; sink_after = W.faults sink.new; log = result.log.log }) result.status result.line }
     ensures commanded { IsTrue result.started → HasCommanded O.objects O.faults (map string_bytes words.now) origin (W.written sink.old) result.origin (W.written sink.new) result.log result.status }
     // Without a depot nothing was done.
-    ensures unstarted { result.started ≡ false → (result.log.log ≡ []) × (O.objects result.origin ≡ O.objects origin) × (sink.new ≡ sink.old) }
+    ensures unstarted { result.started ≡ false → (result.log.log ≡ []) × (O.objects result.origin ≡ O.objects origin) × (sink.new ≡ sink.old) × (result.status ≢ 0) × (result.status ≢ 5) }
     ensures unread { _source.new ≡ _source.old }
     ensures never_falls { O.faults origin ≤ O.faults result.origin }
 {

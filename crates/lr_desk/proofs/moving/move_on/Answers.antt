@@ -15,7 +15,7 @@ loop-end-preserved g c = record {
   drives = λ base d. c.in_default.ensures.drives base (c.loop-end.invariant.drives base d);
   rising = omega (arith, c.loop-end.invariant.rising, c.in_default.ensures.never_falls);
   cause = λ h. fault_since c.args.machine.now.need c.loop-end.machine.need (g.O.Origin.faults c.args.depot.now.origin) (g.O.Origin.faults c.loop-end.depot.origin) (g.O.Origin.faults c.turn.new.depot.origin)
-    c.loop-end.invariant.rising c.in_default.ensures.never_falls c.loop-end.invariant.cause (c.in_default.ensures.cause h);
+      c.loop-end.invariant.rising c.in_default.ensures.never_falls c.loop-end.invariant.cause (c.in_default.ensures.cause h);
 }
 
 pub returns-in-Some-clause-walk : goal.returns-in-Some-clause-walk

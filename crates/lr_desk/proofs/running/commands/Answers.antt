@@ -1,7 +1,7 @@
-use Rattle.std.proofs.Common.{Global, map, ap, sym, subst}
+use Rattle.std.proofs.Common.{◌≡◌, ◌≢◌, ℕ, Global, map, refl, ap, sym, subst, ◌∙◌, arith}
 use Rattle.std.specs.String.{string_bytes}
 use Rattle.lr_opening.specs.Cause.{IsCause}
-use Rattle.lr_desk.proofs.Answering.{answered_usage, answered_by_cause, answered_started, has_commanded}
+use Rattle.lr_desk.proofs.Answering.{cause_status, answered_usage, answered_by_cause, answered_started, has_commanded}
 use Rattle.lr_desk.proofs.running.commands.Goals as goal
 
 pub returns-in_default-clause-answered : goal.returns-in_default-clause-answered
@@ -43,3 +43,12 @@ returns-clause-commanded g c = λ _.
     (map (string_bytes {Z = Global}) c.args.words.now) (g.W.Sink.faults c.args.sink.now) (g.W.Sink.faults c.run-outcome.new.sink) c.in-Some.command (g.W.Sink.written c.args.sink.now) (g.W.Sink.written c.run-outcome.new.sink)
     c.run-outcome.result c.status.result c.line.result c.in-Ok.ensures.started c.run-outcome.ensures.start c.end-origin.ensures.ended c.in-Some.ensures.found.0 c.in-Some.ensures.found.1 c.run-outcome.ensures.ran
     c.status.ensures
+
+pub returns-in_default-clause-unstarted : goal.returns-in_default-clause-unstarted
+returns-in_default-clause-unstarted g c = λ _.
+    (c.unstarted.ensures.log, ap g.O.Origin.objects c.unstarted.ensures.origin, refl, λ e. absurd (omega (arith, e, c.unstarted.ensures.status)), λ e. absurd (omega (arith, e, c.unstarted.ensures.status)))
+
+pub returns-in-Err-clause-unstarted : goal.returns-in-Err-clause-unstarted
+returns-in-Err-clause-unstarted g c = λ _.
+    let status = cause_status c.in-Err.error.cause in
+    (c.failed.ensures.log, ap g.O.Origin.objects c.failed.ensures.origin ∙ c.in-Err.ensures.back.0, refl, λ e. status.0 (sym c.failed.ensures.status ∙ e), λ e. status.1 (sym c.failed.ensures.status ∙ e))
