@@ -51,7 +51,11 @@ const TURNS: &[Row] = &[
 ];
 
 // A command over a store: what it gives back, and what it wrote.
-fn does<O: Origin>(alloc: Global, origin: O, command: &[&str]) -> Result<(Done<O>, Vec<u8>), Fail> {
+fn does<O: Origin + Drop>(
+    alloc: Global,
+    origin: O,
+    command: &[&str],
+) -> Result<(Done<O>, Vec<u8>), Fail> {
     let mut words = Vec::new(alloc);
     for word in command {
         words.push(String::from_str(alloc, *word)?)?;
