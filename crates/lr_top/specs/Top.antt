@@ -35,12 +35,12 @@ MatchRun (record_of.Run run) none some = some run
 -- What holds of what is left of a command's depot.
 abbrev pub IfCommand : RunRecord → (Left → Type 0) → Type 0
 IfCommand (record_of.Command left) P = P left
-IfCommand record P = ⊤
+IfCommand r P = ⊤
 
 -- the log of a command's depot
 abbrev pub log_of : RunRecord → List LogEntry
 log_of (record_of.Command left) = left.log
-log_of record = []
+log_of r = []
 
 -- the line of a refused script
 abbrev pub refusal : ℕ → List ℕ

@@ -27,7 +27,7 @@ fn is_play(words: &[String]) -> bool
 }
 
 // The record of a command: the log of its depot, where it had one.
-fn record(started: bool, log: DepotLog) -> RunRecord
+fn recorded(started: bool, log: DepotLog) -> RunRecord
     ensures started { IsTrue started → result ≡ record_of.Command log }
     ensures nothing { started ≡ false → result ≡ record_of.Nothing }
 {
@@ -61,7 +61,7 @@ pub fn desk<O: Origin, I: Source, W: Sink>(
         log,
         origin,
     } = done;
-    let run = record(started, log);
+    let run = recorded(started, log);
     Outcome {
         status,
         line,

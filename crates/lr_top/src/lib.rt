@@ -15,4 +15,3 @@ mod tests;
 
 pub use choose::{desk, top};
 pub use outcome::{Outcome, RunRecord};
-

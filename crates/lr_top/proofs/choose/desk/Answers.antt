@@ -16,17 +16,17 @@ returns-clause-answered g c =
       sink_before = g.W.Sink.faults c.args.sink.now;
       sink_after = g.W.Sink.faults d.new.sink;
       log = l;
-    }) d.result.status d.result.line) (sym (log_same d.result.started c.record-run.result d.result.log c.record-run.ensures.started c.record-run.ensures.nothing (λ e. (d.ensures.unstarted e).0))) d.ensures.answered
+    }) d.result.status d.result.line) (sym (log_same d.result.started c.recorded-run.result d.result.log c.recorded-run.ensures.started c.recorded-run.ensures.nothing (λ e. (d.ensures.unstarted e).0))) d.ensures.answered
 
 pub returns-clause-commanded : goal.returns-clause-commanded
 returns-clause-commanded g c =
     let d = c.commands-done in
-    if_command d.result.started c.record-run.result d.result.log
+    if_command d.result.started c.recorded-run.result d.result.log
     (λ left. HasCommanded g.O.Origin.objects g.O.Origin.faults (map (string_bytes {Z = Global}) c.args.words.now) c.args.origin (g.W.Sink.written c.args.sink.now) d.result.origin (g.W.Sink.written d.new.sink) left d.result.status)
-    c.record-run.ensures.started c.record-run.ensures.nothing d.ensures.commanded
+    c.recorded-run.ensures.started c.recorded-run.ensures.nothing d.ensures.commanded
 
 pub returns-clause-recorded : goal.returns-clause-recorded
 returns-clause-recorded g c =
     let d = c.commands-done in
-    if_nothing d.result.started c.record-run.result d.result.log _ c.record-run.ensures.started c.record-run.ensures.nothing
+    if_nothing d.result.started c.recorded-run.result d.result.log _ c.recorded-run.ensures.started c.recorded-run.ensures.nothing
     (λ e. let u = d.ensures.unstarted e in (u.3, u.4, ap g.W.Sink.written u.2))
