@@ -4,6 +4,7 @@ ghost use Rattle.std.specs.Prelude.{◌<◌, ◌≤◌};
 use crate::error::BenchError;
 use crate::task::{Work, Worked};
 use lr_io::{MemSink, MemSource};
+use lr_origin::MemOrigin;
 use lr_report::{Run, report};
 use lr_single::Script;
 use lr_text::{put_number, put_run};
@@ -117,7 +118,13 @@ pub struct Playing {
 
 impl Playing {
     fn play(&mut self, alloc: Global) -> Result<Run, BenchError> {
-        let outcome = top(alloc, &self.words, &mut self.source, &mut self.sink);
+        let outcome = top(
+            alloc,
+            &self.words,
+            &mut self.source,
+            &mut self.sink,
+            MemOrigin::new(alloc),
+        );
         match outcome.run {
             RunRecord::Run(run) if outcome.status == 0 => Ok(run),
             _ => Err(BenchError::Refused),

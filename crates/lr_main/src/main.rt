@@ -1,5 +1,5 @@
-//! The program `lr`: a store and a command. `lr - play` reads a script on standard input, runs it on an
-//! empty store in memory, and writes its report to standard output.
+//! The program `lr`: a store and a command. The store is a folder, or `-` for an empty one in memory. `lr - play` reads a
+//! script on standard input, runs it, and writes its report to standard output; the other commands are done over the store.
 //!
 //! `edge` is the trusted edge: what standard input and output hold, no contract knows.
 #![tactic(auto)]
@@ -9,7 +9,9 @@ mod edge;
 mod tests;
 
 use edge::{StdSink, StdSource};
-use lr_top::{Outcome, top};
+use lr_folder::DirOrigin;
+use lr_origin::{MemOrigin, Origin};
+use lr_top::top;
 use std::io::{ErrorKind, Write};
 use std::process::ExitCode;
 use std::{env, io};
@@ -19,21 +21,22 @@ const USAGE: u8 = 2;
 
 const MEMORY: u8 = 7;
 
-// The words behind the store, where the store is the empty one in memory: no others are known.
-fn command(rt: &HostRuntime) -> io::Result<Vec<String>> {
-    let mut words = Vec::new(rt.alloc());
+// The words of a command line: the store's, where there is one, and the command's.
+#[derive(Drop)]
+struct Words {
+    store: Option<String>,
+    command: Vec<String>,
+}
+
+fn words(rt: &HostRuntime) -> io::Result<Words> {
+    let mut command = Vec::new(rt.alloc());
     let mut args = env::args(rt)?;
     let _program = args.next();
-    let Some(store) = args.next() else {
-        return Ok(words);
-    };
-    if store.as_str() != "-" {
-        return Ok(words);
-    }
+    let store = args.next();
     for word in args {
-        words.push(word)?;
+        command.push(word)?;
     }
-    Ok(words)
+    Ok(Words { store, command })
 }
 
 // Says a status in words on standard error, where there are any, and ends with it.
@@ -46,14 +49,25 @@ fn ends(rt: &HostRuntime, status: u8, line: &[u8]) -> ExitCode {
     ExitCode::from(status)
 }
 
+// Does a command over a store, on standard input and output.
+fn run<O: Origin + Drop>(rt: &HostRuntime, command: &[String], origin: O) -> ExitCode {
+    let mut source = StdSource::new(rt.stdin());
+    let mut sink = StdSink::new(rt.stdout());
+    let outcome = top(rt.alloc(), command, &mut source, &mut sink, origin);
+    ends(rt, outcome.status, outcome.line.as_slice())
+}
+
 fn main(rt: HostRuntime) -> ExitCode {
-    let words = match command(&rt) {
+    let Words { store, command } = match words(&rt) {
         Ok(words) => words,
         Err(error) if error.kind() == ErrorKind::OutOfMemory => return ends(&rt, MEMORY, b"memory"),
         Err(_) => return ends(&rt, USAGE, b"usage"),
     };
-    let mut source = StdSource::new(rt.stdin());
-    let mut sink = StdSink::new(rt.stdout());
-    let outcome: Outcome = top(rt.alloc(), &words, &mut source, &mut sink);
-    ends(&rt, outcome.status, outcome.line.as_slice())
+    let Some(store) = store else {
+        return run(&rt, &command, MemOrigin::new(rt.alloc()));
+    };
+    if store.as_str() == "-" {
+        return run(&rt, &command, MemOrigin::new(rt.alloc()));
+    }
+    run(&rt, &command, DirOrigin::new(&rt, store))
 }

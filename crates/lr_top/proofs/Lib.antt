@@ -1,3 +1,4 @@
+mod Desking
 mod OneWord
 mod Padding
 mod Reading

@@ -1,8 +1,10 @@
 -- What the top call answers.
-use Rattle.std.specs.Prelude.{◌≡◌, ℕ, ◌⊎◌, ◌++◌, List, [], codes, decimal, length, Option, Some}
+use Rattle.std.specs.Prelude.{◌≡◌, ℕ, ◌⊎◌, ◌++◌, List, [], codes, decimal, length, Option, Some, ⊤}
 use Rattle.lr_spec.specs.Told.{Told}
 use Rattle.lr_single.specs.Seen.{ScriptSeen}
 use Rattle.lr_single.specs.Grammar.{Spells, FirstOutside}
+use Rattle.lr_depot.specs.Machine.{LogEntry}
+use Rattle.lr_depot.specs.Left.{Left}
 use Rattle.lr_report.specs.Report.{report_text}
 use Rattle.lr_report.specs.declared.run.Run.{Run}
 use Rattle.lr_top.specs.declared.outcome.RunRecord.{RunRecord}
@@ -24,10 +26,21 @@ HasNoLineOutside left = Told left (λ xs. (n : ℕ) → FirstOutside xs n → �
 abbrev pub report_of : Run → List ℕ
 report_of run = report_text run.script (length run.device.bytes) run.device.log
 
--- What holds of a record: nothing was run, or this was.
+-- What holds of a record: nothing was run, or this was. Of a command's record it says nothing.
 abbrev pub MatchRun : RunRecord → Type 0 → (Run → Type 0) → Type 0
 MatchRun record_of.Nothing none some = none
+MatchRun (record_of.Command left) none some = ⊤
 MatchRun (record_of.Run run) none some = some run
+
+-- What holds of what is left of a command's depot.
+abbrev pub IfCommand : RunRecord → (Left → Type 0) → Type 0
+IfCommand (record_of.Command left) P = P left
+IfCommand r P = ⊤
+
+-- the log of a command's depot
+abbrev pub log_of : RunRecord → List LogEntry
+log_of (record_of.Command left) = left.log
+log_of r = []
 
 -- the line of a refused script
 abbrev pub refusal : ℕ → List ℕ

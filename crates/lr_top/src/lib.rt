@@ -1,9 +1,10 @@
 //! The top call: one command of the product over a source and a sink, with the headline in its contract.
 //!
 //! `image` makes the bytes that a device is opened on, `input` reads a script from a source, `serve` makes
-//! a script's device calls, and `top` puts these together. `outcome` holds what the call gives back.
+//! a script's device calls, `play` puts these together, and `choose` has the top call, which gives other words to the commands over a store. `outcome` holds what the call gives back.
 #![tactic(auto)]
 
+mod choose;
 mod image;
 mod input;
 mod outcome;
@@ -12,5 +13,5 @@ mod serve;
 #[cfg(test)]
 mod tests;
 
+pub use choose::{desk, top};
 pub use outcome::{Outcome, RunRecord};
-pub use play::top;

@@ -1,5 +1,7 @@
 //! What a command leaves.
+use lr_depot::DepotLog;
 use lr_io::Line;
+use lr_origin::Origin;
 use lr_report::Run;
 
 /// What a command left beside its output.
@@ -7,16 +9,21 @@ use lr_report::Run;
 pub enum RunRecord {
     /// Nothing was run.
     Nothing,
+    /// A single command was done over a depot, which has this log.
+    Command(DepotLog),
     /// This was run to its end.
     Run(Run),
 }
 
 /// What the top call gives back.
 #[derive(Drop)]
-pub struct Outcome {
-    /// The exit status: 0 done, 2 wrong words, 3 no script, 4 the source failed, 5 the sink failed, 7 want of memory.
+pub struct Outcome<O: Origin> {
+    /// The exit status: 0 done, 2 wrong words, 3 no script, 4 the source failed, 5 the sink failed, 6 the store failed,
+    /// 7 want of memory, 8 refused, 9 a foreign key, 10 a spoiled key, 11 too many keys.
     pub status: u8,
     /// The status in words; empty for 0.
     pub line: Line,
     pub run: RunRecord,
+    /// The store. `play` doesn't touch it.
+    pub origin: O,
 }

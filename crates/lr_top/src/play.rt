@@ -1,41 +1,49 @@
-//! The commands.
-ghost use Rattle.std.specs.Prelude.{◌≡◌, ◌≢◌, ◌⊎◌, ◌↔◌, ◌≤◌, ◌<◌, ◌++◌, [], ◌∷◌, ℕ, OnOk, IfOk, IfSome, IsTrue, length, map, codes, string_bytes};
+//! Scripts that are played.
+ghost use Rattle.std.specs.Prelude.{◌≡◌, ◌≢◌, ◌⊎◌, ℕ};
 ghost use Rattle.lr_spec.specs.Rose.{Rose};
 ghost use Rattle.lr_spec.specs.Told.{Told};
 ghost use Rattle.lr_io.specs.Streams.{Appends, AppendsFront};
 ghost use Rattle.lr_single.specs.Grammar.{FirstOutside};
 ghost use Rattle.lr_top.specs.Served.{HasServed};
-ghost use Rattle.lr_top.specs.Top.{IsReadAs, IsOutsideAt, report_of, MatchRun, refusal, IsStatus};
+ghost use Rattle.lr_top.specs.Top.{IsReadAs, IsOutsideAt, report_of, MatchRun, IfCommand, refusal, IsStatus};
 ghost use Rattle.lr_top.specs.declared.outcome.RunRecord.TheVariants as record_of;
 
 use crate::input::{InputError, read_script};
-use crate::outcome::{Outcome, RunRecord};
+use crate::outcome::RunRecord;
 use crate::serve::serve;
 use itoa::Buffer;
 use lr_io::{Line, Sink, SinkError, Source, write_all};
 use lr_report::{Run, report};
 use std::alloc::Global;
 
-// The outcome of a command that ran nothing.
-fn ends(status: u8, line: Line) -> Outcome
+/// What `play` gives back.
+#[derive(Drop)]
+pub(crate) struct Played {
+    pub(crate) status: u8,
+    pub(crate) line: Line,
+    pub(crate) run: RunRecord,
+}
+
+// The outcome of a script that wasn't run.
+fn ends(status: u8, line: Line) -> Played
     ensures status { result.status ≡ status }
     ensures line { result.line ≡ line }
     ensures nothing { result.run ≡ record_of.Nothing }
 {
-    Outcome {
+    Played {
         status,
         line,
         run: RunRecord::Nothing,
     }
 }
 
-// The outcome of a command whose run came to its end.
-fn ran(status: u8, line: Line, run: Run) -> Outcome
+// The outcome of a script whose run came to its end.
+fn ran(status: u8, line: Line, run: Run) -> Played
     ensures status { result.status ≡ status }
     ensures line { result.line ≡ line }
     ensures run { result.run ≡ record_of.Run run }
 {
-    Outcome {
+    Played {
         status,
         line,
         run: RunRecord::Run(run),
@@ -53,7 +61,7 @@ fn refusal(line: u32) -> Line
 }
 
 // Writes the report of a run.
-fn writes<W: Sink>(alloc: Global, sink: &mut W, run: Run) -> Outcome
+fn writes<W: Sink>(alloc: Global, sink: &mut W, run: Run) -> Played
     ensures run { result.run ≡ record_of.Run run }
     ensures all { result.status ≡ 0 → Appends (W.written sink.old) (report_of run) (W.written sink.new) }
     ensures front { AppendsFront (W.written sink.old) (report_of run) (W.written sink.new) }
@@ -71,18 +79,8 @@ fn writes<W: Sink>(alloc: Global, sink: &mut W, run: Run) -> Outcome
     }
 }
 
-// Whether the words are the one word `play`.
-fn is_play(words: &[String]) -> bool
-    ensures { IsTrue result ↔ (map string_bytes words.now ≡ codes "play" ∷ []) }
-{
-    match words {
-        [word] => word.as_str() == "play",
-        _ => false,
-    }
-}
-
-// Reads a script, runs it and writes its report.
-fn play<I: Source, W: Sink>(alloc: Global, source: &mut I, sink: &mut W) -> Outcome
+/// Reads a script, runs it and writes its report.
+pub(crate) fn play<I: Source, W: Sink>(alloc: Global, source: &mut I, sink: &mut W) -> Played
     ensures known { result.status ≢ 2 }
     ensures line { IsStatus result.status result.line }
     ensures refused { result.status ≡ 3 → (n : ℕ) × (result.line ≡ refusal n) × IsOutsideAt (I.left source.old) n }
@@ -94,6 +92,7 @@ fn play<I: Source, W: Sink>(alloc: Global, source: &mut I, sink: &mut W) -> Outc
     ensures served { MatchRun result.run (Unit {0}) (λ run. HasServed run.script run.device) }
     ensures reported { MatchRun result.run (Unit {0}) (λ run. result.status ≡ 0 → Appends (W.written sink.old) (report_of run) (W.written sink.new)) }
     ensures front { MatchRun result.run (Unit {0}) (λ run. AppendsFront (W.written sink.old) (report_of run) (W.written sink.new)) }
+    ensures no_command { IfCommand result.run (λ _. ⊥) }
 {
     let script = match read_script(alloc, source) {
         Ok(script) => script,
@@ -105,40 +104,4 @@ fn play<I: Source, W: Sink>(alloc: Global, source: &mut I, sink: &mut W) -> Outc
         return ends(7, Line::of(b"memory"));
     };
     writes(alloc, sink, Run { script, device })
-}
-
-/// Does one command. The words choose it; `play` reads a script from the source, runs it, and writes its
-/// report to the sink.
-///
-/// In the run that it hands back, the script is the reading of all that the source had, and the device's
-/// history is a legal one of a plain block device opened on the image's padded bytes, with one entry for
-/// each job of the script in order. Every call returns, for every source and sink.
-pub fn top<I: Source, W: Sink>(
-    alloc: Global,
-    words: &[String],
-    source: &mut I,
-    sink: &mut W,
-) -> Outcome
-    ensures usage { (result.status ≡ 2) ↔ (map string_bytes words.now ≢ codes "play" ∷ []) }
-    ensures line { IsStatus result.status result.line }
-
-    // Status 3 names the first line outside the grammar. It comes exactly where there is one, if the reading comes to its end.
-    ensures refused { result.status ≡ 3 → (n : ℕ) × (result.line ≡ refusal n) × IsOutsideAt (I.left source.old) n }
-    ensures only { map string_bytes words.now ≡ codes "play" ∷ [] → Told (I.left source.old) (λ xs. (n : ℕ) → FirstOutside xs n → (result.status ≡ 3) ⊎ ((result.status ≡ 4) ⊎ (result.status ≡ 7))) }
-
-    ensures read_fault { result.status ≡ 4 → Rose (I.faults source.old) (I.faults source.new) }
-    ensures write_fault { result.status ≡ 5 → Rose (W.faults sink.old) (W.faults sink.new) }
-
-    // A run is handed back with status 0, 5 or 7 alone, and always with 0 and 5. Without one nothing was written.
-    ensures recorded { MatchRun result.run ((result.status ≢ 0) × (result.status ≢ 5) × (W.written sink.new ≡ W.written sink.old)) (λ _. (result.status ≡ 0) ⊎ ((result.status ≡ 5) ⊎ (result.status ≡ 7))) }
-
-    ensures script { MatchRun result.run (Unit {0}) (λ run. IsReadAs (I.left source.old) run.script (I.left source.new)) }
-    ensures served { MatchRun result.run (Unit {0}) (λ run. HasServed run.script run.device) }
-    ensures reported { MatchRun result.run (Unit {0}) (λ run. result.status ≡ 0 → Appends (W.written sink.old) (report_of run) (W.written sink.new)) }
-    ensures front { MatchRun result.run (Unit {0}) (λ run. AppendsFront (W.written sink.old) (report_of run) (W.written sink.new)) }
-{
-    if !is_play(words) {
-        return ends(2, Line::of(b"usage"));
-    }
-    play(alloc, source, sink)
 }

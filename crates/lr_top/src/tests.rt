@@ -3,6 +3,7 @@ ghost use Rattle.std.specs.Prelude.{◌≡◌};
 
 use crate::top;
 use lr_io::{MemSink, MemSource};
+use lr_origin::MemOrigin;
 use std::alloc::Global;
 use std::test::Fail;
 
@@ -66,7 +67,7 @@ fn play(alloc: Global, text: &[u8], read: Option<u64>, write: Option<u64>) -> Re
     words.push(String::from_str(alloc, "play")?)?;
     let mut source = MemSource::new(Vec::from_slice(alloc, text)?, numbers(alloc, read)?);
     let mut sink = MemSink::new(alloc, numbers(alloc, write)?);
-    let outcome = top(alloc, &words, &mut source, &mut sink);
+    let outcome = top(alloc, &words, &mut source, &mut sink, MemOrigin::new(alloc));
     Ok(Answer {
         status: outcome.status,
         line: Vec::from_slice(alloc, outcome.line.as_slice())?,
@@ -128,10 +129,28 @@ fn words_other_than_play_are_usage(rt: HostRuntime) -> Result<(), Fail> {
     let mut words = Vec::new(alloc);
     let mut source = MemSource::new(Vec::new(alloc), Vec::new(alloc));
     let mut sink = MemSink::new(alloc, Vec::new(alloc));
-    assert_eq!(rt; top(alloc, &words, &mut source, &mut sink).status, 2);
+    assert_eq!(rt;
+        top(
+            alloc,
+            &words,
+            &mut source,
+            &mut sink,
+            MemOrigin::new(alloc),
+        )
+        .status,
+        2
+    );
     words.push(String::from_str(alloc, "replay")?)?;
     assert_eq!(rt;
-        top(alloc, &words, &mut source, &mut sink).line.as_slice(),
+        top(
+            alloc,
+            &words,
+            &mut source,
+            &mut sink,
+            MemOrigin::new(alloc),
+        )
+        .line
+        .as_slice(),
         b"usage".as_slice()
     );
     Ok(())

@@ -1,0 +1,54 @@
+use Rattle.std.proofs.Common.{◌≡◌, ◌≢◌, ℕ, Global, map, refl, ap, sym, subst, ◌∙◌, arith}
+use Rattle.std.specs.String.{string_bytes}
+use Rattle.lr_opening.specs.Cause.{IsCause}
+use Rattle.lr_desk.proofs.Answering.{cause_status, answered_usage, answered_by_cause, answered_started, has_commanded}
+use Rattle.lr_desk.proofs.running.commands.Goals as goal
+
+pub returns-in_default-clause-answered : goal.returns-in_default-clause-answered
+returns-in_default-clause-answered g c =
+    answered_usage (record {
+      words = map (string_bytes {Z = Global}) c.args.words.now;
+      objects = g.O.Origin.objects c.args.origin;
+      origin_before = g.O.Origin.faults c.args.origin;
+      origin_after = g.O.Origin.faults c.unstarted.result.origin;
+      sink_before = g.W.Sink.faults c.args.sink.now;
+      sink_after = g.W.Sink.faults c.args.sink.now;
+      log = c.unstarted.result.log.log;
+    }) c.unstarted.result.status c.unstarted.result.line c.unstarted.ensures.log c.in_default.ensures.only c.unstarted.ensures.status c.unstarted.ensures.line
+
+pub returns-in-Err-clause-answered : goal.returns-in-Err-clause-answered
+returns-in-Err-clause-answered g c =
+    answered_by_cause (record {
+      words = map (string_bytes {Z = Global}) c.args.words.now;
+      objects = g.O.Origin.objects c.args.origin;
+      origin_before = g.O.Origin.faults c.args.origin;
+      origin_after = g.O.Origin.faults c.failed.result.origin;
+      sink_before = g.W.Sink.faults c.args.sink.now;
+      sink_after = g.W.Sink.faults c.args.sink.now;
+      log = c.failed.result.log.log;
+    }) c.in-Err.error.cause
+    (subst (λ n. IsCause (g.O.Origin.objects c.args.origin) (g.O.Origin.faults c.args.origin) n c.in-Err.error.cause) (sym (ap g.O.Origin.faults c.failed.ensures.origin)) c.in-Err.ensures.cause)
+    c.failed.result.status c.failed.result.line c.failed.ensures.log (c.in-Some.command, c.in-Some.ensures.found.0, c.in-Some.ensures.found.1) c.failed.ensures.status c.failed.ensures.line
+
+pub returns-clause-answered : goal.returns-clause-answered
+returns-clause-answered g c =
+    answered_started g.O.Origin.objects g.O.Origin.faults c.args.origin c.end-origin.result.0 c.in-Ok.depot c.run-outcome.new.depot c.end-origin.result.1 c.end-origin.result.2
+    (map (string_bytes {Z = Global}) c.args.words.now) (g.W.Sink.faults c.args.sink.now) (g.W.Sink.faults c.run-outcome.new.sink) c.in-Some.command (g.W.Sink.written c.args.sink.now) (g.W.Sink.written c.run-outcome.new.sink)
+    c.run-outcome.result c.status.result c.line.result c.in-Ok.ensures.started c.run-outcome.ensures.start c.end-origin.ensures.ended c.in-Some.ensures.found.0 c.in-Some.ensures.found.1 c.run-outcome.ensures.ran
+    c.run-outcome.ensures.write_fault c.status.ensures c.line.ensures
+
+pub returns-clause-commanded : goal.returns-clause-commanded
+returns-clause-commanded g c = λ _.
+    has_commanded g.O.Origin.objects g.O.Origin.faults c.args.origin c.end-origin.result.0 c.in-Ok.depot c.run-outcome.new.depot c.end-origin.result.1 c.end-origin.result.2
+    (map (string_bytes {Z = Global}) c.args.words.now) (g.W.Sink.faults c.args.sink.now) (g.W.Sink.faults c.run-outcome.new.sink) c.in-Some.command (g.W.Sink.written c.args.sink.now) (g.W.Sink.written c.run-outcome.new.sink)
+    c.run-outcome.result c.status.result c.line.result c.in-Ok.ensures.started c.run-outcome.ensures.start c.end-origin.ensures.ended c.in-Some.ensures.found.0 c.in-Some.ensures.found.1 c.run-outcome.ensures.ran
+    c.status.ensures
+
+pub returns-in_default-clause-unstarted : goal.returns-in_default-clause-unstarted
+returns-in_default-clause-unstarted g c = λ _.
+    (c.unstarted.ensures.log, ap g.O.Origin.objects c.unstarted.ensures.origin, refl, λ e. absurd (omega (arith, e, c.unstarted.ensures.status)), λ e. absurd (omega (arith, e, c.unstarted.ensures.status)))
+
+pub returns-in-Err-clause-unstarted : goal.returns-in-Err-clause-unstarted
+returns-in-Err-clause-unstarted g c = λ _.
+    let status = cause_status c.in-Err.error.cause in
+    (c.failed.ensures.log, ap g.O.Origin.objects c.failed.ensures.origin ∙ c.in-Err.ensures.back.0, refl, λ e. status.0 (sym c.failed.ensures.status ∙ e), λ e. status.1 (sym c.failed.ensures.status ∙ e))

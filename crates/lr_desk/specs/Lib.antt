@@ -1,0 +1,6 @@
+pub mod Causes
+pub mod Drive
+pub mod Ends
+pub mod Outcome
+pub mod Roots
+pub mod Words

@@ -1,0 +1,21 @@
+//! The commands over a store: each is one machine driven over a depot, or a text of the depot's view.
+#![tactic(auto)]
+
+mod collecting;
+mod ends;
+mod laws;
+mod moving;
+mod outcome;
+mod roots;
+mod running;
+#[cfg(test)]
+mod tests;
+mod words;
+
+pub use collecting::collect;
+pub use laws::logs_tell_of_outcomes;
+pub use moving::migrate;
+pub use outcome::{Outcome, Refusal};
+pub use roots::view_text;
+pub use running::{Done, commands};
+pub use words::{Command, command_of};
