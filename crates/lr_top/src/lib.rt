@@ -1,16 +1,18 @@
 //! The top call: one command of the product over a source and a sink, with the headline in its contract.
 //!
-//! `image` makes the bytes that a device is opened on, `input` reads a script from a source, `serve` makes
-//! a script's device calls, and `top` puts these together. `outcome` holds what the call gives back.
+//! `image` makes the bytes that a device is opened on, `sealed` their chunks, `input` reads a script from a source,
+//! `serve` makes a script's device calls, and `top` puts these together. `outcome` holds what the call gives back.
 #![tactic(auto)]
 
 mod image;
 mod input;
 mod outcome;
 mod play;
+mod sealed;
 mod serve;
 #[cfg(test)]
 mod tests;
 
 pub use outcome::{Outcome, RunRecord};
 pub use play::top;
+pub use serve::written_pages;
