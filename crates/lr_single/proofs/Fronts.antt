@@ -28,6 +28,8 @@ kind_counts kind.Image s words after h = ap counts h.result
 kind_counts kind.Device s words after h = ap counts h.result
 kind_counts kind.Actor s words after h = ap counts h.result
 kind_counts kind.Read s words after h = ap counts h.result
+kind_counts kind.Write s words after h = ap counts h.result
+kind_counts kind.Zero s words after h = ap counts h.result
 kind_counts kind.Other s words after h = absurd h
 
 words_counts : (s : State) (words : List (List ℕ)) (after : State) → WordsLine s words after → counts after ≡ counts s

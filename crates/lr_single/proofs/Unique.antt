@@ -8,9 +8,9 @@ use Rattle.lr_single.specs.declared.kind.Kind.TheVariants as kind
 use Rattle.lr_single.specs.declared.kind.Part.TheVariants as part
 use Rattle.lr_single.specs.declared.script.Job.TheVariants as job
 use Rattle.lr_single.specs.Seen.{ScriptSeen, ImageSeen}
-use Rattle.lr_single.specs.State.{State, Draft, start, counted, draft_of, IsWhole}
+use Rattle.lr_single.specs.State.{State, Draft, start, counted, with_job, draft_of, IsWhole}
 use Rattle.lr_single.specs.Kinds.{kind_of}
-use Rattle.lr_single.specs.Lines.{KindLine, RootLine, HostLine, ImageLine, DeviceLine, ActorLine, ReadLine}
+use Rattle.lr_single.specs.Lines.{KindLine, RootLine, HostLine, ImageLine, DeviceLine, ActorLine, IsRange, ReadLine, WriteLine, ZeroLine}
 use Rattle.lr_single.specs.Grammar.{WordsLine, Reads, Run, text_of, Spells, NoLine, FirstOutside}
 use Rattle.lr_single.proofs.Fronts.{text_lacks}
 
@@ -54,12 +54,28 @@ actor_one s w a b h k =
     let n : h.name ≡ k.name = cc e in
     cc (h.result, k.result)
 
+-- The words of a range spell one.
+range_one : (s : State) (w : List (List ℕ)) (offset len other_offset other_len : ℕ) → IsRange s w offset len → IsRange s w other_offset other_len → (offset ≡ other_offset) × (len ≡ other_len)
+range_one s w offset len other_offset other_len h k =
+    let e = sym h.spelled ∙ k.spelled in
+    (decimal_injective offset other_offset h.fits k.fits (cc e), one_number len other_len 1048576 (omega arith) h.most k.most (cc e))
+
 read_one : (s : State) (w : List (List ℕ)) (a b : State) → ReadLine s w a → ReadLine s w b → a ≡ b
 read_one s w a b h k =
+    let same = range_one s w h.offset h.len k.offset k.len h.range k.range in
+    h.result ∙ ap₂ (λ (x y : ℕ). with_job s (job.Read x y)) same.0 same.1 ∙ sym k.result
+
+zero_one : (s : State) (w : List (List ℕ)) (a b : State) → ZeroLine s w a → ZeroLine s w b → a ≡ b
+zero_one s w a b h k =
+    let same = range_one s w h.offset h.len k.offset k.len h.range k.range in
+    h.result ∙ ap₂ (λ (x y : ℕ). with_job s (job.Zero x y)) same.0 same.1 ∙ sym k.result
+
+write_one : (s : State) (w : List (List ℕ)) (a b : State) → WriteLine s w a → WriteLine s w b → a ≡ b
+write_one s w a b h k =
     let e = sym h.spelled ∙ k.spelled in
     let o : h.offset ≡ k.offset = decimal_injective h.offset k.offset h.fits k.fits (cc e) in
-    let l : h.len ≡ k.len = one_number h.len k.len 1048576 (omega arith) h.most k.most (cc e) in
-    h.result ∙ ap₂ (λ (x y : ℕ). record s { called = s.called + y; draft = record s.draft { jobs = s.draft.jobs ++ job.Read x y ∷ [] } }) o l ∙ sym k.result
+    let r : h.runs ≡ k.runs = one_runs h.runs k.runs h.are.each k.are.each (cc e) in
+    h.result ∙ (λ i. with_job s (job.Write (o i) (r i))) ∙ sym k.result
 
 kind_one : (k : Kind) (s : State) (w : List (List ℕ)) (a b : State) → KindLine k s w a → KindLine k s w b → a ≡ b
 kind_one kind.Script s w a b h k = h.result ∙ sym k.result
@@ -69,6 +85,8 @@ kind_one kind.Image s w a b h k = image_one s w a b h k
 kind_one kind.Device s w a b h k = device_one s w a b h k
 kind_one kind.Actor s w a b h k = actor_one s w a b h k
 kind_one kind.Read s w a b h k = read_one s w a b h k
+kind_one kind.Write s w a b h k = write_one s w a b h k
+kind_one kind.Zero s w a b h k = zero_one s w a b h k
 kind_one kind.Other s w a b h k = absurd h
 
 words_one : (s : State) (w : List (List ℕ)) (a b : State) → WordsLine s w a → WordsLine s w b → a ≡ b

@@ -2,7 +2,7 @@
 use Rattle.std.specs.Prelude.{ℕ, List, Bool, true, false, codes, if◌then◌else◌}
 use Rattle.std.specs.Str.{bytes_eq}
 use Rattle.lr_single.specs.declared.kind.Kind.{Kind}
-use Rattle.lr_single.specs.declared.kind.Kind.TheVariants.{Script, Root, Host, Image, Device, Actor, Read, Other}
+use Rattle.lr_single.specs.declared.kind.Kind.TheVariants.{Script, Root, Host, Image, Device, Actor, Read, Write, Zero, Other}
 use Rattle.lr_single.specs.declared.kind.Part.{Part}
 use Rattle.lr_single.specs.declared.kind.Part.TheVariants as part
 
@@ -15,6 +15,8 @@ kind_of word =
     else if bytes_eq word (codes "device") then Device
     else if bytes_eq word (codes "actor") then Actor
     else if bytes_eq word (codes "read") then Read
+    else if bytes_eq word (codes "write") then Write
+    else if bytes_eq word (codes "zero") then Zero
     else Other
 
 -- which kinds may come in a part: each setup line once and in this order, then the actor, then its jobs
@@ -26,4 +28,6 @@ may_come part.Hosted Image = true
 may_come part.Made Device = true
 may_come part.Opened Actor = true
 may_come part.Acting Read = true
+may_come part.Acting Write = true
+may_come part.Acting Zero = true
 may_come _ _ = false

@@ -1,13 +1,13 @@
 -- Each kind of line: the words behind the first, what they ask of the state, and the state after.
-use Rattle.std.specs.Prelude.{◌≡◌, ◌≢◌, ℕ, ◌+◌, ◌<◌, ◌≤◌, ◌^◌, List, [], ◌∷◌, ◌++◌, length, map, Some, IsTrue, codes, decimal}
+use Rattle.std.specs.Prelude.{◌≡◌, ◌≢◌, ℕ, ◌+◌, ◌<◌, ◌≤◌, ◌^◌, List, [], ◌∷◌, length, map, Some, IsTrue, codes, decimal}
 use Rattle.lr_text.specs.Name.{is_name}
-use Rattle.lr_text.specs.Words.{IsKey, AreRuns, run_word, key_word}
+use Rattle.lr_text.specs.Words.{IsKey, AreRuns, run_word, run_sum, key_word}
 use Rattle.lr_single.specs.declared.kind.Part.TheVariants as part
 use Rattle.lr_single.specs.declared.kind.Kind.{Kind}
 use Rattle.lr_single.specs.declared.kind.Kind.TheVariants as kind
 use Rattle.lr_single.specs.declared.script.Job.TheVariants as job
 use Rattle.lr_single.specs.Seen.{ImageSeen}
-use Rattle.lr_single.specs.State.{State}
+use Rattle.lr_single.specs.State.{State, with_job}
 
 -- `script 1`
 pub record ScriptLine (s : State) (words : List (List ℕ)) (after : State) : Type 0 where
@@ -64,18 +64,44 @@ pub record ActorLine (s : State) (words : List (List ℕ)) (after : State) : Typ
   pub not_rounds : name ≢ codes "rounds"
   pub result : after ≡ record s { part = part.Acting; draft = record s.draft { actor = Some name } }
 
--- `read DEVICE OFFSET LENGTH`, of this device
-pub record ReadLine (s : State) (words : List (List ℕ)) (after : State) : Type 0 where
+-- `DEVICE OFFSET LENGTH`, of this device
+pub record IsRange (s : State) (words : List (List ℕ)) (offset len : ℕ) : Type 0 where
   pub device : List ℕ
-  pub offset : ℕ
-  pub len : ℕ
   pub spelled : words ≡ device ∷ decimal offset ∷ decimal len ∷ []
   pub its_device : s.draft.device ≡ Some device
   pub fits : offset < 2 ^ 64
   pub most : len ≤ 1048576
   pub all : s.called + len ≤ 268435456
   pub room : length s.draft.jobs < 20000
-  pub result : after ≡ record s { called = s.called + len; draft = record s.draft { jobs = s.draft.jobs ++ job.Read offset len ∷ [] } }
+
+-- `read DEVICE OFFSET LENGTH`
+pub record ReadLine (s : State) (words : List (List ℕ)) (after : State) : Type 0 where
+  pub offset : ℕ
+  pub len : ℕ
+  pub range : IsRange s words offset len
+  pub result : after ≡ with_job s (job.Read offset len)
+
+-- `write DEVICE OFFSET RUN ..`, of this device
+pub record WriteLine (s : State) (words : List (List ℕ)) (after : State) : Type 0 where
+  pub device : List ℕ
+  pub offset : ℕ
+  pub runs : List (ℕ × ℕ)
+  pub spelled : words ≡ device ∷ decimal offset ∷ map run_word runs
+  pub its_device : s.draft.device ≡ Some device
+  pub fits : offset < 2 ^ 64
+  pub some : 1 ≤ length runs
+  pub few : length runs ≤ 64
+  pub are : AreRuns runs 1048576
+  pub all : s.called + run_sum runs ≤ 268435456
+  pub room : length s.draft.jobs < 20000
+  pub result : after ≡ with_job s (job.Write offset runs)
+
+-- `zero DEVICE OFFSET LENGTH`
+pub record ZeroLine (s : State) (words : List (List ℕ)) (after : State) : Type 0 where
+  pub offset : ℕ
+  pub len : ℕ
+  pub range : IsRange s words offset len
+  pub result : after ≡ with_job s (job.Zero offset len)
 
 -- a line of this kind
 abbrev pub KindLine : Kind → State → List (List ℕ) → State → Type 0
@@ -86,4 +112,6 @@ KindLine kind.Image = ImageLine
 KindLine kind.Device = DeviceLine
 KindLine kind.Actor = ActorLine
 KindLine kind.Read = ReadLine
+KindLine kind.Write = WriteLine
+KindLine kind.Zero = ZeroLine
 KindLine kind.Other = λ s words after. ⊥

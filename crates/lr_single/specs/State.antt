@@ -1,9 +1,9 @@
 -- What a front of a script comes to.
-use Rattle.std.specs.Prelude.{◌≡◌, ℕ, ◌+◌, ◌<◌, List, [], Option, Some, None, length}
+use Rattle.std.specs.Prelude.{◌≡◌, ℕ, ◌+◌, ◌<◌, List, [], ◌∷◌, ◌++◌, Option, Some, None, length}
 use Rattle.lr_single.specs.declared.script.Job.{Job}
 use Rattle.lr_single.specs.declared.kind.Part.{Part}
 use Rattle.lr_single.specs.declared.kind.Part.TheVariants as part
-use Rattle.lr_single.specs.Seen.{ImageSeen, ScriptSeen}
+use Rattle.lr_single.specs.Seen.{ImageSeen, ScriptSeen, job_length}
 
 -- what the lines so far said
 pub record Draft : Type 0 where
@@ -35,6 +35,10 @@ start = record {
 -- one line more
 abbrev pub counted : State → List ℕ → State
 counted s line = record s { lines = s.lines + 1; bytes = s.bytes + length line + 1 }
+
+-- one job more
+abbrev pub with_job : State → Job → State
+with_job s job = record s { called = s.called + job_length job; draft = record s.draft { jobs = s.draft.jobs ++ job ∷ [] } }
 
 -- the draft of which every part was said
 abbrev pub draft_of : ScriptSeen → Draft

@@ -24,6 +24,8 @@ pub enum Kind {
     Device,
     Actor,
     Read,
+    Write,
+    Zero,
     Other,
 }
 
@@ -52,6 +54,12 @@ pub fn kind_of(word: &[u8]) -> Kind
     if word == b"read".as_slice() {
         return Kind::Read;
     }
+    if word == b"write".as_slice() {
+        return Kind::Write;
+    }
+    if word == b"zero".as_slice() {
+        return Kind::Zero;
+    }
     Kind::Other
 }
 
@@ -66,6 +74,6 @@ pub fn may_come(part: Part, kind: Kind) -> bool
         Part::Hosted => matches!(kind, Kind::Image),
         Part::Made => matches!(kind, Kind::Device),
         Part::Opened => matches!(kind, Kind::Actor),
-        Part::Acting => matches!(kind, Kind::Read),
+        Part::Acting => matches!(kind, Kind::Read | Kind::Write | Kind::Zero),
     }
 }

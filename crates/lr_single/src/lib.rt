@@ -15,4 +15,4 @@ mod step;
 
 pub use error::ScriptError;
 pub use parse::one_reading;
-pub use script::{ImageBody, Job, Script};
+pub use script::{ImageBody, Job, Runs, Script};

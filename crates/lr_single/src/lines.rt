@@ -1,16 +1,21 @@
 //! The words of each kind of line.
 ghost use Rattle.std.specs.Prelude.{◌≡◌, ◌≢◌, ◌<◌, ◌≤◌, ◌∷◌, [], ◌↔◌, ℕ, List, map, length, false, IfOk, IfSome, IfNone, IsTrue, codes};
-ghost use Rattle.lr_text.specs.Words.{AreRuns, run_word};
+ghost use Rattle.lr_text.specs.Words.{AreRuns, run_word, run_sum};
 ghost use Rattle.lr_single.specs.State.{State};
-ghost use Rattle.lr_single.specs.Lines.{ScriptLine, RootLine, HostLine, ImageLine, DeviceLine, ActorLine, ReadLine};
+ghost use Rattle.lr_single.specs.Lines.{ScriptLine, RootLine, HostLine, ImageLine, DeviceLine, ActorLine, IsRange, ReadLine, WriteLine, ZeroLine};
 
 use crate::reading::Reading;
-use crate::script::{ImageBody, Job};
+use crate::script::{ImageBody, Job, Runs};
 use lr_spec::OutOfMemory;
 use lr_text::{
     ImageName, first, four, is, key_of, number_between, number_of, one, runs_of, three, two,
 };
 use std::alloc::Global;
+
+// The most bytes of one device call, and of all.
+const CALL_MAX: u64 = 1_048_576;
+
+const CALLS_MAX: u64 = 268_435_456;
 
 // Each function reads the words behind the first of its kind of line. It is false where they don't fit.
 
@@ -169,12 +174,72 @@ pub fn actor_line(reading: &mut Reading, words: &[&[u8]]) -> bool
     true
 }
 
+// `DEVICE OFFSET LENGTH` of the device that was said, and room for the job and its bytes.
+fn range_of(reading: &Reading, words: &[&[u8]]) -> Option<(u64, u32)>
+    ensures found { IfSome result (λ r. IsRange reading.now (map (λ w. w.now) words.now) r.0 r.1) }
+    ensures only { IfNone result ((offset len : ℕ) → IsRange reading.now (map (λ w. w.now) words.now) offset len → ⊥) }
+{
+    let (device, offset, length) = three(words)?;
+    if !reading.is_device(device) {
+        return None;
+    }
+    let offset = number_of(offset)?;
+    let length = number_between(length, 0, CALL_MAX)?;
+    if u64::from(reading.called()) + length > CALLS_MAX {
+        return None;
+    }
+    if !reading.has_job_room() {
+        return None;
+    }
+    Some((offset, length as u32))
+}
+
+// The bytes of the runs.
+fn sum_of(runs: &[(u64, u8)]) -> u32
+    requires { run_sum runs.now ≤ CALL_MAX }
+    ensures { result ≡ run_sum runs.now }
+{
+    let sum: u64 = runs.iter().map(|r| r.0).sum();
+    sum as u32
+}
+
 /// `read DEVICE OFFSET LENGTH`
 pub fn read_line(reading: &mut Reading, words: &[&[u8]]) -> Result<bool, OutOfMemory>
     ensures read { IfOk result (λ b. IsTrue b → ReadLine reading.old (map (λ w. w.now) words.now) reading.new) }
     ensures only { IfOk result (λ b. b ≡ false → (after : State) → ReadLine reading.old (map (λ w. w.now) words.now) after → ⊥) }
 {
-    let Some((device, offset, length)) = three(words) else {
+    let Some((offset, length)) = range_of(reading, words) else {
+        return Ok(false);
+    };
+    reading.add_job(Job::Read { offset, length }, length)?;
+    Ok(true)
+}
+
+/// `zero DEVICE OFFSET LENGTH`
+pub fn zero_line(reading: &mut Reading, words: &[&[u8]]) -> Result<bool, OutOfMemory>
+    ensures read { IfOk result (λ b. IsTrue b → ZeroLine reading.old (map (λ w. w.now) words.now) reading.new) }
+    ensures only { IfOk result (λ b. b ≡ false → (after : State) → ZeroLine reading.old (map (λ w. w.now) words.now) after → ⊥) }
+{
+    let Some((offset, length)) = range_of(reading, words) else {
+        return Ok(false);
+    };
+    reading.add_job(Job::Zero { offset, length }, length)?;
+    Ok(true)
+}
+
+/// `write DEVICE OFFSET RUN ..`
+pub fn write_line(
+    alloc: Global,
+    reading: &mut Reading,
+    words: &[&[u8]],
+) -> Result<bool, OutOfMemory>
+    ensures read { IfOk result (λ b. IsTrue b → WriteLine reading.old (map (λ w. w.now) words.now) reading.new) }
+    ensures only { IfOk result (λ b. b ≡ false → (after : State) → WriteLine reading.old (map (λ w. w.now) words.now) after → ⊥) }
+{
+    let Some((device, rest)) = first(words) else {
+        return Ok(false);
+    };
+    let Some((offset, rest)) = first(rest) else {
         return Ok(false);
     };
     if !reading.is_device(device) {
@@ -183,16 +248,23 @@ pub fn read_line(reading: &mut Reading, words: &[&[u8]]) -> Result<bool, OutOfMe
     let Some(offset) = number_of(offset) else {
         return Ok(false);
     };
-    let Some(length) = number_between(length, 0, 1_048_576) else {
+    if rest.is_empty() {
+        return Ok(false);
+    }
+    if rest.len() > 64 {
+        return Ok(false);
+    }
+    let Some(runs) = runs_of(alloc, rest, CALL_MAX)? else {
         return Ok(false);
     };
-    let length = length as u32;
-    if reading.called() + length > 268_435_456 {
+    let length = sum_of(&runs);
+    if u64::from(reading.called()) + u64::from(length) > CALLS_MAX {
         return Ok(false);
     }
     if !reading.has_job_room() {
         return Ok(false);
     }
-    reading.add_job(Job::Read { offset, length }, length)?;
+    let runs = Runs::of(runs);
+    reading.add_job(Job::Write { offset, runs }, length)?;
     Ok(true)
 }

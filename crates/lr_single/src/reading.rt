@@ -1,8 +1,8 @@
 //! What the lines so far come to.
 ghost use Rattle.std.specs.Prelude.{◌≡◌, ◌<◌, ◌≤◌, ◌+◌, ◌++◌, ◌∷◌, [], ◌↔◌, ◌⊎◌, ℕ, List, length, Some, None, IfOk, IfSome, IfNone, IsTrue};
 ghost use Rattle.lr_text.specs.Words.{IsKey, key_word};
-ghost use Rattle.lr_single.specs.Seen.{ImageSeen, ScriptSeen};
-ghost use Rattle.lr_single.specs.State.{start, counted, IsWhole};
+ghost use Rattle.lr_single.specs.Seen.{ImageSeen, ScriptSeen, job_length};
+ghost use Rattle.lr_single.specs.State.{start, counted, with_job, IsWhole};
 
 use crate::kind::Part;
 use crate::script::{ImageBody, Job, Script};
@@ -29,7 +29,8 @@ pub struct Reading {
 
 impl Model for Reading {
     ghost use Rattle.lr_single.specs.State.{State};
-    ghost use Rattle.std.specs.Prelude.{◌≤◌};
+    ghost use Rattle.lr_single.specs.Seen.{IsSmall};
+    ghost use Rattle.std.specs.Prelude.{◌≤◌, All};
 
     ghost Value = { State };
 
@@ -49,7 +50,7 @@ impl Model for Reading {
       };
     } };
 
-    ghost invariant = { λ s. (s.lines ≤ 100000) × (s.called ≤ 268435456) };
+    ghost invariant = { λ s. (s.lines ≤ 100000) × (s.called ≤ 268435456) × All IsSmall s.jobs.items };
 }
 
 impl Reading {
@@ -189,8 +190,10 @@ impl Reading {
 
     /// A job more, whose device call has so many bytes.
     pub fn add_job(&mut self, job: Job, length: u32) -> Result<(), OutOfMemory>
-        requires { self.old.called + length ≤ 268435456 }
-        ensures { IfOk result (λ _. self.new ≡ record self.old { called = self.old.called + length; draft = record self.old.draft { jobs = self.old.draft.jobs ++ job ∷ [] } }) }
+        requires its { length ≡ job_length job }
+        requires most { length ≤ 1048576 }
+        requires all { self.old.called + length ≤ 268435456 }
+        ensures { IfOk result (λ _. self.new ≡ with_job self.old job) }
     {
         self.jobs.push(job)?;
         self.called += length;

@@ -28,10 +28,51 @@ impl Model for ImageBody {
     ghost invariant = { λ i. (i.raw_len ≤ 67108864) × (run_sum i.runs.items ≤ i.raw_len) };
 }
 
-/// What an actor does. Offset and length are bytes.
-#[derive(Clone, Copy, Debug, PartialEq, Eq)]
+/// Runs of equal bytes: how often which byte. Contracts see a list.
+#[derive(Drop)]
+pub struct Runs {
+    runs: Vec<(u64, u8)>,
+}
+
+impl Model for Runs {
+    ghost use Rattle.std.specs.Prelude.{ℕ, List};
+
+    ghost Value = { List (ℕ × ℕ) };
+
+    ghost view = { λ r. r.runs.items };
+}
+
+impl Runs {
+    /// These runs. It takes no memory.
+    pub fn of(runs: Vec<(u64, u8)>) -> Runs
+        ensures { result ≡ runs.items }
+    {
+        Runs { runs }
+    }
+
+    pub fn as_slice(&self) -> &[(u64, u8)]
+        ensures { result.now ≡ self.now }
+    {
+        &self.runs
+    }
+}
+
+/// What an actor does. Offset and length are bytes, and no call has more than 1,048,576.
+#[derive(Drop)]
 pub enum Job {
-    Read { offset: u64, length: u32 },
+    Read {
+        offset: u64,
+        length: u32,
+    },
+    /// It writes the bytes of at most 64 runs.
+    Write {
+        offset: u64,
+        runs: Runs,
+    },
+    Zero {
+        offset: u64,
+        length: u32,
+    },
 }
 
 /// A script: one host, one image, one device on it, and one actor with its jobs.
@@ -48,7 +89,8 @@ pub struct Script {
 }
 
 impl Model for Script {
-    ghost use Rattle.lr_single.specs.Seen.{ScriptSeen};
+    ghost use Rattle.std.specs.Prelude.{All};
+    ghost use Rattle.lr_single.specs.Seen.{ScriptSeen, IsSmall};
 
     ghost Value = { ScriptSeen };
 
@@ -61,4 +103,6 @@ impl Model for Script {
       actor = s.actor;
       jobs = s.jobs.items;
     } };
+
+    ghost invariant = { λ s. All IsSmall s.jobs.items };
 }

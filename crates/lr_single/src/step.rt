@@ -8,7 +8,8 @@ ghost use Rattle.lr_single.specs.Grammar.{is_text_byte, WordsLine, Reads};
 
 use crate::kind::{Kind, kind_of, may_come};
 use crate::lines::{
-    actor_line, device_line, host_line, image_line, read_line, root_line, script_line,
+    actor_line, device_line, host_line, image_line, read_line, root_line, script_line, write_line,
+    zero_line,
 };
 use crate::reading::Reading;
 use lr_spec::OutOfMemory;
@@ -39,6 +40,8 @@ fn kind_line(
         Kind::Device => Ok(device_line(reading, words)),
         Kind::Actor => Ok(actor_line(reading, words)),
         Kind::Read => read_line(reading, words),
+        Kind::Write => write_line(alloc, reading, words),
+        Kind::Zero => zero_line(reading, words),
         Kind::Other => Ok(false),
     }
 }

@@ -3,4 +3,5 @@ mod OneWord
 mod Padding
 mod Reading
 mod Reported
+mod Sealing
 mod Serving

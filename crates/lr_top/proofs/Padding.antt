@@ -26,3 +26,12 @@ is_padded image whole fit is le =
 
 pub bytes_fit : (image : ImageSeen) (whole : ℕ) → run_sum image.runs ≤ image.raw_len → image.raw_len ≤ whole → length (bytes_of_runs image.runs) ≤ whole
 bytes_fit image whole fit le = omega (arith, length-bytes_of_runs image.runs)
+
+-- The padded bytes fill whole pages.
+pub length-padded : (image : ImageSeen) → run_sum image.runs ≤ image.raw_len → image.raw_len ≤ padded_length image.raw_len → length (padded (raw_bytes image)) ≡ padded_length image.raw_len
+length-padded image fit le =
+    let bytes = bytes_of_runs image.runs in
+    let gap = image.raw_len - run_sum image.runs in
+    let raw : length (raw_bytes image) ≡ image.raw_len = length-append bytes (replicate gap 0) ∙ rw (length-bytes_of_runs image.runs, length-replicate {A = ℕ} gap 0) (omega arith) in
+    let fill = λ (n : ℕ). padded_length n - n in
+    length-append (raw_bytes image) (replicate (fill (length (raw_bytes image))) 0) ∙ rw (length-replicate {A = ℕ} (fill (length (raw_bytes image))) 0, raw) (omega (arith, le))

@@ -1,4 +1,5 @@
 pub mod Raw
 pub mod Top
+pub mod Sealing
 pub mod Served
 pub mod Input

@@ -1,10 +1,11 @@
 -- What the top call answers.
-use Rattle.std.specs.Prelude.{◌≡◌, ℕ, ◌⊎◌, ◌++◌, List, [], codes, decimal, length, Option, Some, ⊤}
+use Rattle.std.specs.Prelude.{◌≡◌, ℕ, ◌⊎◌, ◌++◌, List, [], codes, decimal, Option, Some, ⊤}
 use Rattle.lr_spec.specs.Told.{Told}
 use Rattle.lr_single.specs.Seen.{ScriptSeen}
 use Rattle.lr_single.specs.Grammar.{Spells, FirstOutside}
 use Rattle.lr_depot.specs.Machine.{LogEntry}
 use Rattle.lr_depot.specs.Left.{Left}
+use Rattle.lr_device.specs.Machine.{history}
 use Rattle.lr_report.specs.Report.{report_text}
 use Rattle.lr_report.specs.declared.run.Run.{Run}
 use Rattle.lr_top.specs.declared.outcome.RunRecord.{RunRecord}
@@ -24,7 +25,7 @@ HasNoLineOutside left = Told left (λ xs. (n : ℕ) → FirstOutside xs n → �
 
 -- the report of a run
 abbrev pub report_of : Run → List ℕ
-report_of run = report_text run.script (length run.device.bytes) run.device.log
+report_of run = report_text run.script run.device.capacity (history run.device.log)
 
 -- What holds of a record: nothing was run, or this was. Of a command's record it says nothing.
 abbrev pub MatchRun : RunRecord → Type 0 → (Run → Type 0) → Type 0

@@ -41,3 +41,15 @@ returns-in-Read-clause-read c = rw c.in-Read.is c.read_line.ensures.read
 
 pub returns-in-Read-clause-only : goal.returns-in-Read-clause-only
 returns-in-Read-clause-only c = rw c.in-Read.is c.read_line.ensures.only
+
+pub returns-in-Write-clause-read : goal.returns-in-Write-clause-read
+returns-in-Write-clause-read c = rw c.in-Write.is c.write_line.ensures.read
+
+pub returns-in-Write-clause-only : goal.returns-in-Write-clause-only
+returns-in-Write-clause-only c = rw c.in-Write.is c.write_line.ensures.only
+
+pub returns-in-Zero-clause-read : goal.returns-in-Zero-clause-read
+returns-in-Zero-clause-read c = rw c.in-Zero.is c.zero_line.ensures.read
+
+pub returns-in-Zero-clause-only : goal.returns-in-Zero-clause-only
+returns-in-Zero-clause-only c = rw c.in-Zero.is c.zero_line.ensures.only
