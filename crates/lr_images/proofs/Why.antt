@@ -32,6 +32,7 @@ reply_spoiled (Spoiled q) k h = let same : q ≡ k = key_of (told.Spoiled k) (to
     kept : DepotTold → KeyKind → KeyKind
     kept (told.Spoiled p) d = p
     kept t d = d
+
     key_of : (a b : DepotTold) → told.Spoiled k ≡ told.Spoiled q → q ≡ k
     key_of a b e = sym (ap (λ t. kept t k) e)
 reply_spoiled (Opened lease m) k h = absurd h
@@ -59,8 +60,10 @@ unspoiled_from law start m begun mirrors had before mid (x ∷ log) n first rest
   where
     more : LeadsTo (first_state start) m (before ++ x ∷ []) rest.2
     more = leads_more (first_state start) m before mid x rest.0 rest.1 rest.2 first rest.3 rest.4 rest.5
+
     after : LeadsTo (run (first_state start) (before ++ x ∷ [])) rest.2 log n
     after = subst (λ q. LeadsTo q rest.2 log n) (sym (run_one (first_state start) before x)) rest.6
+
     by : (LeadsTo (first_state start) m (before ++ x ∷ []) rest.2 → LeadsTo (run (first_state start) (before ++ x ∷ [])) rest.2 log n → IsUnspoiled log) → (e : LogEntry) (k : KeyKind) → e.reply ≡ told.Spoiled k → IsOneOf (x ∷ log) e → ⊥
     by next e k is (inl same) =
         let reply : rest.1 ≡ Spoiled k = reply_spoiled rest.1 k (subst (λ q. IsTold rest.1 q) (ap (λ (q : LogEntry). q.reply) (sym same) ∙ is) rest.4.told) in

@@ -16,6 +16,23 @@ const LENGTHS: &[usize] = &[
     0, 1, 4095, 4096, 4097, 524_288, 524_289, 1_048_576, 1_048_577,
 ];
 
+// An answer in short.
+#[derive(Clone, Copy, Debug, PartialEq, Eq)]
+enum Told {
+    Root,
+    Same,
+    OtherBytes,
+    NoRoot,
+    NoImage,
+    Taken,
+    Fault,
+    Refused,
+    Sealed,
+    ReadFault,
+    TooLong,
+    Memory,
+}
+
 fn bytes_of(alloc: Global, len: usize) -> Result<Vec<u8>, Fail> {
     let mut bytes = vec![in alloc; 7u8; len]?;
     for (i, byte) in bytes.iter_mut().enumerate() {
@@ -24,11 +41,16 @@ fn bytes_of(alloc: Global, len: usize) -> Result<Vec<u8>, Fail> {
     Ok(bytes)
 }
 
+fn start(alloc: Global, origin: MemOrigin) -> Result<Depot<MemOrigin>, Fail> {
+    match Depot::start(alloc, origin) {
+        Ok(depot) => Ok(depot),
+        Err(_) => Err("the depot didn't start".into()),
+    }
+}
+
 // A depot with one root.
 fn depot_over(alloc: Global, origin: MemOrigin) -> Result<Depot<MemOrigin>, Fail> {
-    let Ok(mut depot) = Depot::start(alloc, origin) else {
-        return Err("the depot didn't start".into());
-    };
+    let mut depot = start(alloc, origin)?;
     let _rotated = depot.apply(alloc, 0, DepotCall::Rotate { salt: [1; 32] });
     Ok(depot)
 }
@@ -40,93 +62,112 @@ fn web() -> Result<ImageName, Fail> {
     }
 }
 
-// A reply of the depot in short.
-fn word_of(reply: &DepotReply) -> &'static str {
+fn reply_told(reply: &DepotReply) -> Told {
     match reply {
-        DepotReply::NoRoot => "no root",
-        DepotReply::NoImage => "no image",
-        DepotReply::Taken => "taken",
-        DepotReply::Fault(_) => "fault",
-        _ => "refused",
+        DepotReply::NoRoot => Told::NoRoot,
+        DepotReply::NoImage => Told::NoImage,
+        DepotReply::Taken => Told::Taken,
+        DepotReply::Fault(_) => Told::Fault,
+        _ => Told::Refused,
     }
 }
 
-// What the creation of an image of so many bytes answers, where the source fails at some calls.
-fn created(
+fn creation_told(created: &Created) -> Told {
+    match created {
+        Created::Root(_) => Told::Root,
+        Created::Refused(reply) => reply_told(reply),
+        Created::ReadFault => Told::ReadFault,
+        Created::TooLong => Told::TooLong,
+        Created::OutOfMemory => Told::Memory,
+    }
+}
+
+fn error_told(error: &CatError) -> Told {
+    match error {
+        CatError::Refused(reply) => reply_told(reply),
+        CatError::Sealed => Told::Sealed,
+        CatError::OutOfMemory => Told::Memory,
+    }
+}
+
+// Creates an image of so many bytes. The source fails at the calls with these numbers.
+fn make(
     alloc: Global,
     depot: &mut Depot<MemOrigin>,
     len: usize,
-    fails: Vec<u64>,
-) -> Result<&'static str, Fail> {
-    let mut source = MemSource::new(bytes_of(alloc, len)?, fails);
+    fails: &[u64],
+) -> Result<Told, Fail> {
+    let mut source = MemSource::new(bytes_of(alloc, len)?, fails.to_vec(alloc)?);
     let image = web()?;
-    Ok(match create(alloc, depot, &mut source, image, TENANT) {
-        Created::Root(1) => "root 1",
-        Created::Root(_root) => "root",
-        Created::Refused(reply) => word_of(&reply),
-        Created::ReadFault => "read fault",
-        Created::TooLong => "too long",
-        Created::OutOfMemory => "memory",
-    })
+    let created = create(alloc, depot, &mut source, image, TENANT);
+    Ok(creation_told(&created))
 }
 
-// What reading it back answers: `same` where all bytes come.
-fn read_back(
+// Reads the image back, and compares it with so many bytes.
+fn read(
     alloc: Global,
     depot: &mut Depot<MemOrigin>,
     tenant: &TenantKey,
     len: usize,
-) -> Result<&'static str, Fail> {
+) -> Result<Told, Fail> {
     let image = web()?;
     let raw = bytes_of(alloc, len)?;
-    Ok(match cat(alloc, depot, image, tenant) {
-        Ok(bytes) => {
-            if bytes.as_slice() == raw.as_slice() {
-                "same"
-            } else {
-                "other bytes"
-            }
-        }
-        Err(error) => error_word(&error),
-    })
+    match cat(alloc, depot, image, tenant) {
+        Ok(bytes) => Ok(compare(&bytes, &raw)),
+        Err(error) => Ok(error_told(&error)),
+    }
 }
 
-fn error_word(error: &CatError) -> &'static str {
-    match error {
-        CatError::Refused(reply) => word_of(reply),
-        CatError::Sealed => "sealed",
-        CatError::OutOfMemory => "memory",
+fn compare(bytes: &[u8], raw: &[u8]) -> Told {
+    if bytes == raw {
+        Told::Same
+    } else {
+        Told::OtherBytes
     }
+}
+
+// Creates an image over a new depot, and reads it back.
+fn round(alloc: Global, len: usize, tenant: &TenantKey) -> Result<(Told, Told), Fail> {
+    let mut depot = depot_over(alloc, MemOrigin::new(alloc))?;
+    let made = make(alloc, &mut depot, len, &[])?;
+    let had = read(alloc, &mut depot, tenant, len)?;
+    Ok((made, had))
 }
 
 #[test]
 fn images_come_back(rt: HostRuntime) -> Result<(), Fail> {
-    let alloc = rt.alloc();
     for len in LENGTHS {
-        let mut depot = depot_over(alloc, MemOrigin::new(alloc))?;
-        assert_eq!(rt; read_back(alloc, &mut depot, &TENANT, *len)?, "no image");
-        assert_eq!(rt;
-            created(alloc, &mut depot, *len, Vec::new(alloc))?,
-            "root 1"
-        );
-        assert_eq!(rt; read_back(alloc, &mut depot, &TENANT, *len)?, "same");
-        assert_eq!(rt; created(alloc, &mut depot, *len, Vec::new(alloc))?, "taken");
-        assert_eq!(rt; read_back(alloc, &mut depot, &OTHER, *len)?, "sealed");
-        assert_eq!(rt; read_back(alloc, &mut depot, &TENANT, *len)?, "same");
+        let (made, had) = round(rt.alloc(), *len, &TENANT)?;
+        assert!(rt; made == Told::Root);
+        assert!(rt; had == Told::Same);
     }
     Ok(())
 }
 
 #[test]
-fn the_limit_is_met(rt: HostRuntime) -> Result<(), Fail> {
+fn another_key_is_told(rt: HostRuntime) -> Result<(), Fail> {
+    let (made, had) = round(rt.alloc(), 5000, &OTHER)?;
+    assert!(rt; made == Told::Root);
+    assert!(rt; had == Told::Sealed);
+    Ok(())
+}
+
+#[test]
+fn an_image_is_made_once(rt: HostRuntime) -> Result<(), Fail> {
     let alloc = rt.alloc();
     let mut depot = depot_over(alloc, MemOrigin::new(alloc))?;
-    assert_eq!(rt;
-        created(alloc, &mut depot, 67_108_865, Vec::new(alloc))?,
-        "too long"
-    );
-    assert_eq!(rt; read_back(alloc, &mut depot, &TENANT, 0)?, "no image");
-    assert_eq!(rt; created(alloc, &mut depot, 3, Vec::new(alloc))?, "root 1");
+    assert!(rt; read(alloc, &mut depot, &TENANT, 3)? == Told::NoImage);
+    assert!(rt; make(alloc, &mut depot, 3, &[])? == Told::Root);
+    assert!(rt; make(alloc, &mut depot, 3, &[])? == Told::Taken);
+    Ok(())
+}
+
+#[test]
+fn a_long_source_makes_no_image(rt: HostRuntime) -> Result<(), Fail> {
+    let alloc = rt.alloc();
+    let mut depot = depot_over(alloc, MemOrigin::new(alloc))?;
+    assert!(rt; make(alloc, &mut depot, 67_108_865, &[])? == Told::TooLong);
+    assert!(rt; read(alloc, &mut depot, &TENANT, 0)? == Told::NoImage);
     Ok(())
 }
 
@@ -135,13 +176,8 @@ fn a_failed_read_makes_no_image(rt: HostRuntime) -> Result<(), Fail> {
     let alloc = rt.alloc();
     for call in 0..3u64 {
         let mut depot = depot_over(alloc, MemOrigin::new(alloc))?;
-        let fails = Vec::from_slice(alloc, &[call])?;
-        assert_eq!(rt; created(alloc, &mut depot, 5000, fails)?, "read fault");
-        assert_eq!(rt; read_back(alloc, &mut depot, &TENANT, 5000)?, "no image");
-        assert_eq!(rt;
-            created(alloc, &mut depot, 5000, Vec::new(alloc))?,
-            "root 1"
-        );
+        assert!(rt; make(alloc, &mut depot, 5000, &[call])? == Told::ReadFault);
+        assert!(rt; make(alloc, &mut depot, 5000, &[])? == Told::Root);
     }
     Ok(())
 }
@@ -149,16 +185,13 @@ fn a_failed_read_makes_no_image(rt: HostRuntime) -> Result<(), Fail> {
 #[test]
 fn without_a_root_nothing_is_read(rt: HostRuntime) -> Result<(), Fail> {
     let alloc = rt.alloc();
-    let Ok(mut depot) = Depot::start(alloc, MemOrigin::new(alloc)) else {
-        return Err("the depot didn't start".into());
-    };
-    let fails = Vec::from_slice(alloc, &[0u64])?;
-    assert_eq!(rt; created(alloc, &mut depot, 5000, fails)?, "no root");
+    let mut depot = start(alloc, MemOrigin::new(alloc))?;
+    assert!(rt; make(alloc, &mut depot, 5000, &[0])? == Told::NoRoot);
     Ok(())
 }
 
-// A store that fails the first call of an operation on a key.
-fn fails_once(alloc: Global, op: Op, key: &[u8]) -> Result<MemOrigin, Fail> {
+// A depot over a store that fails the first call of an operation on a key.
+fn failing(alloc: Global, op: Op, key: &[u8]) -> Result<Depot<MemOrigin>, Fail> {
     let mut fails = Vec::new(alloc);
     fails.push(Failing {
         op,
@@ -166,13 +199,13 @@ fn fails_once(alloc: Global, op: Op, key: &[u8]) -> Result<MemOrigin, Fail> {
         nth: 1,
         done: false,
     })?;
-    Ok(MemOrigin::failing(alloc, fails))
+    depot_over(alloc, MemOrigin::failing(alloc, fails))
 }
 
 // The least key above another one of the store of an image of 5,000 bytes.
 fn key_above(alloc: Global, after: &[u8]) -> Result<Vec<u8>, Fail> {
     let mut depot = depot_over(alloc, MemOrigin::new(alloc))?;
-    let _root = created(alloc, &mut depot, 5000, Vec::new(alloc))?;
+    let _made = make(alloc, &mut depot, 5000, &[])?;
     let (mut origin, _log, _catalog) = depot.end();
     match origin.next_key(alloc, Some(after)) {
         Ok(Some(key)) => Ok(key),
@@ -181,28 +214,31 @@ fn key_above(alloc: Global, after: &[u8]) -> Result<Vec<u8>, Fail> {
 }
 
 #[test]
-fn each_store_call_fails_once(rt: HostRuntime) -> Result<(), Fail> {
+fn a_failed_put_makes_no_image(rt: HostRuntime) -> Result<(), Fail> {
     let alloc = rt.alloc();
     let chunk = key_above(alloc, b"r/0000000001/a")?;
-    let manifest = key_above(alloc, &chunk)?;
-    let mut depot = depot_over(alloc, fails_once(alloc, Op::Put, &chunk)?)?;
-    assert_eq!(rt; created(alloc, &mut depot, 5000, Vec::new(alloc))?, "fault");
-    assert_eq!(rt;
-        created(alloc, &mut depot, 5000, Vec::new(alloc))?,
-        "root 1"
-    );
-    let mut depot = depot_over(alloc, fails_once(alloc, Op::Put, &manifest)?)?;
-    assert_eq!(rt; created(alloc, &mut depot, 5000, Vec::new(alloc))?, "fault");
-    assert_eq!(rt;
-        created(alloc, &mut depot, 5000, Vec::new(alloc))?,
-        "refused"
-    );
-    let mut depot = depot_over(alloc, fails_once(alloc, Op::Get, &chunk)?)?;
-    assert_eq!(rt;
-        created(alloc, &mut depot, 5000, Vec::new(alloc))?,
-        "root 1"
-    );
-    assert_eq!(rt; read_back(alloc, &mut depot, &TENANT, 5000)?, "fault");
-    assert_eq!(rt; read_back(alloc, &mut depot, &TENANT, 5000)?, "same");
+    let mut depot = failing(alloc, Op::Put, &chunk)?;
+    assert!(rt; make(alloc, &mut depot, 5000, &[])? == Told::Fault);
+    assert!(rt; make(alloc, &mut depot, 5000, &[])? == Told::Root);
+    Ok(())
+}
+
+#[test]
+fn a_failed_put_of_the_manifest_is_in_doubt(rt: HostRuntime) -> Result<(), Fail> {
+    let alloc = rt.alloc();
+    let mut depot = failing(alloc, Op::Put, b"r/0000000001/m/web")?;
+    assert!(rt; make(alloc, &mut depot, 5000, &[])? == Told::Fault);
+    assert!(rt; make(alloc, &mut depot, 5000, &[])? == Told::Refused);
+    Ok(())
+}
+
+#[test]
+fn a_failed_get_reads_no_image(rt: HostRuntime) -> Result<(), Fail> {
+    let alloc = rt.alloc();
+    let chunk = key_above(alloc, b"r/0000000001/a")?;
+    let mut depot = failing(alloc, Op::Get, &chunk)?;
+    assert!(rt; make(alloc, &mut depot, 5000, &[])? == Told::Root);
+    assert!(rt; read(alloc, &mut depot, &TENANT, 5000)? == Told::Fault);
+    assert!(rt; read(alloc, &mut depot, &TENANT, 5000)? == Told::Same);
     Ok(())
 }
