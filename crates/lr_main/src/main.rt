@@ -23,12 +23,12 @@ const MEMORY: u8 = 7;
 
 // The words of a command line: the store's, where there is one, and the command's.
 #[derive(Drop)]
-struct Words {
+struct Arguments {
     store: Option<String>,
     command: Vec<String>,
 }
 
-fn words(rt: &HostRuntime) -> io::Result<Words> {
+fn read_arguments(rt: &HostRuntime) -> io::Result<Arguments> {
     let mut command = Vec::new(rt.alloc());
     let mut args = env::args(rt)?;
     let _program = args.next();
@@ -36,7 +36,7 @@ fn words(rt: &HostRuntime) -> io::Result<Words> {
     for word in args {
         command.push(word)?;
     }
-    Ok(Words { store, command })
+    Ok(Arguments { store, command })
 }
 
 // Says a status in words on standard error, where there are any, and ends with it.
@@ -58,8 +58,8 @@ fn run<O: Origin + Drop>(rt: &HostRuntime, command: &[String], origin: O) -> Exi
 }
 
 fn main(rt: HostRuntime) -> ExitCode {
-    let Words { store, command } = match words(&rt) {
-        Ok(words) => words,
+    let Arguments { store, command } = match read_arguments(&rt) {
+        Ok(arguments) => arguments,
         Err(error) if error.kind() == ErrorKind::OutOfMemory => return ends(&rt, MEMORY, b"memory"),
         Err(_) => return ends(&rt, USAGE, b"usage"),
     };
