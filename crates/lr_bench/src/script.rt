@@ -8,7 +8,7 @@ use lr_origin::MemOrigin;
 use lr_report::{Run, report};
 use lr_single::Script;
 use lr_text::{put_number, put_run};
-use lr_top::{RunRecord, top};
+use lr_top::{Outcome, RunRecord, top};
 use std::alloc::Global;
 
 // The lines before the image's raw length, with names as long as names may be.
@@ -118,15 +118,20 @@ pub struct Playing {
 
 impl Playing {
     fn play(&mut self, alloc: Global) -> Result<Run, BenchError> {
-        let outcome = top(
+        let Outcome {
+            status,
+            line: _,
+            run,
+            origin: _,
+        } = top(
             alloc,
             &self.words,
             &mut self.source,
             &mut self.sink,
             MemOrigin::new(alloc),
         );
-        match outcome.run {
-            RunRecord::Run(run) if outcome.status == 0 => Ok(run),
+        match run {
+            RunRecord::Run(run) if status == 0 => Ok(run),
             _ => Err(BenchError::Refused),
         }
     }
