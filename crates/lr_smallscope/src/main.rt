@@ -1,7 +1,7 @@
-//! The program `lr_smallscope`: every sequence of a few calls on a depot over three roots and two images.
+//! The program `lr_smallscope`: every sequence of four or five calls on a depot over three roots and two images.
 //!
-//! From each of some starts it makes all sequences of up to so many calls by two callers, each store call failing at most
-//! once, with and without effect. After each call it judges the view and the store by rules of its own, and starts a
+//! From each of some starts it makes all sequences of up to so many calls by two callers, of which one store call may
+//! fail, with and without effect. After each call it judges the view and the store by rules of its own, and starts a
 //! depot on the store again. A sequence that comes to a state seen before isn't made longer, and calls that are refused
 //! are made one after another in one run. For each start it prints how many states and how many different stores it
 //! saw, and how many runs it made.
@@ -25,9 +25,6 @@ use images::{Image, Scope};
 use moves::{Ask, Move};
 use search::explore;
 use std::process::ExitCode;
-
-// How many calls are made after a start.
-const DEPTH: u32 = 5;
 
 const EMPTY: &[Move] = &[];
 
@@ -64,17 +61,23 @@ const MOVED: &[Move] = &[
     (1, Ask::Finish(0)),
 ];
 
-const STARTS: &[(&str, &[Move])] = &[
-    ("empty", EMPTY),
-    ("rotated", ROTATED),
-    ("leased", LEASED),
-    ("moved", MOVED),
+// The starts, and how many calls are made after each.
+const STARTS: &[(&str, &[Move], u32)] = &[
+    ("empty", EMPTY, 5),
+    ("rotated", ROTATED, 4),
+    ("leased", LEASED, 5),
+    ("moved", MOVED, 4),
 ];
 
 // Whether all sequences from a start keep the rules. Prints what it saw.
-fn search_from(rt: &HostRuntime, name: &str, start: &[Move]) -> Result<bool, ScopeError> {
+fn search_from(
+    rt: &HostRuntime,
+    name: &str,
+    start: &[Move],
+    depth: u32,
+) -> Result<bool, ScopeError> {
     let scope = Scope::make(rt.alloc())?;
-    let found = explore(rt.alloc(), &scope, start, DEPTH)?;
+    let found = explore(rt.alloc(), &scope, start, depth)?;
     let Some(broken) = found.broken else {
         println!(rt;
             "{name} states {} stores {} runs {}",
@@ -88,7 +91,7 @@ fn search_from(rt: &HostRuntime, name: &str, start: &[Move]) -> Result<bool, Sco
 
 fn search_all(rt: &HostRuntime) -> Result<bool, ScopeError> {
     for start in STARTS.iter() {
-        if !search_from(rt, start.0, start.1)? {
+        if !search_from(rt, start.0, start.1, start.2)? {
             return Ok(false);
         }
     }

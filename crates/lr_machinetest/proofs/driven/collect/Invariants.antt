@@ -1,5 +1,0 @@
-use Rattle.std.proofs.Common.{◌≡◌, true}
-use Rattle.lr_machinetest.proofs.driven.collect.Given as goal
-
-abbrev pub invariant-steps : goal.invariant-steps
-invariant-steps g l = l.machine.ready ≡ true
