@@ -1,2 +1,0 @@
-pub mod PlainDevice
-pub mod PlainState
