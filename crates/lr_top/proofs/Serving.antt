@@ -1,5 +1,5 @@
 -- Calls that the device plans and makes, and histories of jobs.
-use Rattle.std.proofs.Common.{◌≡◌, ℕ, ◌+◌, ◌<◌, List, All, take, get_or, [], ◌∷◌, ◌++◌, length, map, replicate, Bool, true, false, find, Option, Some, None, Vec, Global, sym, ap, ◌∙◌, refl, subst, arith, append_assoc, length-append}
+use Rattle.std.proofs.Common.{◌≡◌, ℕ, ◌+◌, ◌<◌, List, All, take, get_or, [], ◌∷◌, ◌++◌, length, map, replicate, Bool, true, false, find, Option, Some, None, Vec, Global, sym, ap, ◌∙◌, refl, subst, append_assoc, length-append}
 use Rattle.std.specs.Prelude.{not, cond, nat_eq, IsNone, option_map}
 use Rattle.std.proofs.lemmas.Bool.{eq-eqb}
 use Rattle.lr_object.specs.Finds.{without_first}
@@ -24,7 +24,7 @@ use Rattle.lr_device.specs.Demand.{demand}
 use Rattle.lr_device.specs.Answers.{Answers, lacking, is_small, needs_of}
 use Rattle.lr_device.specs.Enters.{Notes, Enters}
 use Rattle.lr_device.specs.Held.{Seen}
-use Rattle.lr_device.proofs.Public.{IsMade, is_made, run_push}
+use Rattle.lr_device.proofs.Public.{is_made, run_push}
 use Rattle.lr_single.specs.declared.script.Job.{Job}
 use Rattle.lr_single.specs.declared.script.Job.TheVariants as job
 use Rattle.lr_single.specs.Seen.{job_length}

@@ -78,7 +78,8 @@ fn make_call(
                 _ => unreachable!(),
             }
         }
-        _ => Err(OutOfMemory),
+        DeviceAnswer::OutOfMemory => Err(OutOfMemory),
+        _ => unreachable!(),
     }
 }
 

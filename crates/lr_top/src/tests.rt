@@ -85,17 +85,79 @@ fn one_read_is_reported(rt: HostRuntime) -> Result<(), Fail> {
     Ok(())
 }
 
-#[test]
-fn reads_at_the_edges_are_reported(rt: HostRuntime) -> Result<(), Fail> {
-    let text = script(
-        rt.alloc(),
+// Jobs, and what the report has of their calls and of their results.
+type Row = (&'static [u8], &'static [u8], &'static [u8]);
+
+const TABLE: &[Row] = &[
+    (
         b"read d 7680 512\nread d 8192 512\nread d 100 512\nread d 0 0\n",
+        b"p read 7680 512 512x00\np read 8192 512 range\np read 100 512 range\np read 0 0 range\n",
+        b"1 done\n2 range\n3 range\n4 range\n",
+    ),
+    (
+        b"write d 512 512x7a\nread d 0 4096\n",
+        b"p write 512 512 done\np read 0 4096 1x41 1x42 510x00 512x7a 3072x00\n",
+        b"1 done\n2 done\n",
+    ),
+    (
+        b"write d 0 4096x7a\nread d 0 4096\nzero d 0 4096\nread d 0 4096\n",
+        b"p write 0 4096 done\np read 0 4096 4096x7a\np zero 0 4096 done\np read 0 4096 4096x00\n",
+        b"1 done\n2 done\n3 done\n4 done\n",
+    ),
+    (
+        b"write d 0 512x7a\nwrite d 3584 500x7b 524x7c\nzero d 4096 512\nread d 0 8192\n",
+        b"p write 0 512 done\np write 3584 1024 done\np zero 4096 512 done\np read 0 8192 512x7a 3072x00 500x7b 12x7c 4096x00\n",
+        b"1 done\n2 done\n3 done\n4 done\n",
+    ),
+    (
+        b"write d 7680 1024x7a\nwrite d 0 511x7a\nzero d 100 512\nzero d 0 0\nread d 0 512\n",
+        b"p write 7680 1024 range\np write 0 511 range\np zero 100 512 range\np zero 0 0 range\np read 0 512 1x41 1x42 510x00\n",
+        b"1 range\n2 range\n3 range\n4 range\n5 done\n",
+    ),
+];
+
+#[test]
+fn calls_and_results_are_reported(rt: HostRuntime) -> Result<(), Fail> {
+    for (jobs, calls, results) in TABLE {
+        let text = script(rt.alloc(), jobs)?;
+        let report = joined(
+            rt.alloc(),
+            &[
+                (b"device d a 8192\n".as_slice(), 1),
+                (calls, 1),
+                (b"actor p ended\n", 1),
+                (results, 1),
+            ],
+        )?;
+        let answer = play(rt.alloc(), &text, None, None)?;
+        assert_eq!(rt; answer.status, 0);
+        assert_eq!(rt; answer.written.as_slice(), report.as_slice());
+    }
+    Ok(())
+}
+
+// The last bytes of the first chunk and the first bytes of the second one.
+#[test]
+fn calls_across_chunks_are_reported(rt: HostRuntime) -> Result<(), Fail> {
+    let text = joined(
+        rt.alloc(),
+        &[
+            (ROOT, 1),
+            (HOST, 1),
+            (IMAGE, 1),
+            (b"1048576 bytes 523776x11 1024x22\n", 1),
+            (DEVICE, 1),
+            (
+                b"actor p\nread d 523776 1024\nwrite d 523776 1024x33\nread d 523264 2048\n",
+                1,
+            ),
+        ],
     )?;
     let answer = play(rt.alloc(), &text, None, None)?;
     assert_eq!(rt; answer.status, 0);
     assert_eq!(rt;
         answer.written.as_slice(),
-        b"device d a 8192\np read 7680 512 512x00\np read 8192 512 range\np read 100 512 range\np read 0 0 range\nactor p ended\n1 done\n2 range\n3 range\n4 range\n".as_slice()
+        b"device d a 1048576\np read 523776 1024 1024x22\np write 523776 1024 done\np read 523264 2048 512x11 1024x33 512x00\nactor p ended\n1 done\n2 done\n3 done\n".as_slice()
     );
     Ok(())
 }
@@ -212,6 +274,31 @@ fn a_refusal_names_the_first_line_outside(rt: HostRuntime) -> Result<(), Fail> {
     Ok(())
 }
 
+#[test]
+fn limits_of_a_call_are_told(rt: HostRuntime) -> Result<(), Fail> {
+    let refused = b"script line 7".as_slice();
+    for (front, run, runs, line) in [
+        (b"write d 0".as_slice(), b"".as_slice(), 0, refused),
+        (b"write d 0", b" 1x41", 1, b"".as_slice()),
+        (b"write d 0", b" 1x41", 64, b""),
+        (b"write d 0", b" 1x41", 65, refused),
+        (b"write d 0", b" 524288x41", 2, b""),
+        (b"write d 0", b" 524289x41", 2, refused),
+        (b"write e 0", b" 1x41", 1, refused),
+        (b"zero d 0 1048576", b"", 0, b""),
+        (b"zero d 0 1048577", b"", 0, refused),
+    ] {
+        let text = joined(
+            rt.alloc(),
+            &[(HEAD, 1), (front, 1), (run, runs), (b"\n".as_slice(), 1)],
+        )?;
+        let answer = play(rt.alloc(), &text, None, None)?;
+        assert_eq!(rt; answer.line.as_slice(), line);
+        assert_eq!(rt; answer.status, if line.is_empty() { 0 } else { 3 });
+    }
+    Ok(())
+}
+
 // Of the prefixes of a script the whole is played, and each other is refused at its last line or the one that is missing.
 #[test]
 fn each_prefix_of_a_script_is_told_apart(rt: HostRuntime) -> Result<(), Fail> {
@@ -303,7 +390,8 @@ fn limits_of_the_jobs_are_told(rt: HostRuntime) -> Result<(), Fail> {
         (range, 20_000, range, 1, b"script line 20007"),
         (long, 256, range, 1, b""),
         (long, 256, b"read d 0 512\n", 1, b"script line 263"),
-        (long, 256, b"read d 0 1\n", 1, b"script line 263"),
+        (long, 256, b"zero d 0 1\n", 1, b"script line 263"),
+        (long, 256, b"write d 0 1x41\n", 1, b"script line 263"),
     ] {
         let text = joined(rt.alloc(), &[(HEAD, 1), (job, jobs), (last, times)])?;
         let answer = play(rt.alloc(), &text, None, None)?;

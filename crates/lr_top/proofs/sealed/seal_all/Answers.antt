@@ -1,4 +1,3 @@
-use Rattle.std.proofs.Common.{arith}
 use Rattle.lr_top.proofs.Sealing.{sealed_more}
 use Rattle.lr_top.proofs.sealed.seal_all.Goals as goal
 

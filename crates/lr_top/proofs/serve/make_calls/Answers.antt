@@ -1,7 +1,6 @@
-use Rattle.std.proofs.Common.{◌≡◌, ◌≤◌, ◌∙◌, ap, sym, subst, arith, get_or}
+use Rattle.std.proofs.Common.{◌≡◌, ◌∙◌, ap, sym, subst, arith}
 use Rattle.std.proofs.lemmas.List.Elements.{All-get_or}
 use Rattle.lr_device.specs.PlainDevice.{size_of}
-use Rattle.lr_single.specs.declared.script.Job.{Job}
 use Rattle.lr_single.specs.Seen.{IsSmall, job_length}
 use Rattle.lr_top.proofs.Serving.{call_size, making_more}
 use Rattle.lr_top.proofs.serve.make_calls.Goals as goal
