@@ -11,8 +11,6 @@ mod drive;
 mod laws;
 mod pieces;
 mod reading;
-#[cfg(test)]
-mod tests;
 
 pub use created::Created;
 pub use creating::create;
