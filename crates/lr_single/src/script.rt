@@ -60,19 +60,10 @@ impl Runs {
 /// What an actor does. Offset and length are bytes, and no call has more than 1,048,576.
 #[derive(Drop)]
 pub enum Job {
-    Read {
-        offset: u64,
-        length: u32,
-    },
+    Read { offset: u64, length: u32 },
     /// It writes the bytes of at most 64 runs.
-    Write {
-        offset: u64,
-        runs: Runs,
-    },
-    Zero {
-        offset: u64,
-        length: u32,
-    },
+    Write { offset: u64, runs: Runs },
+    Zero { offset: u64, length: u32 },
 }
 
 /// A script: one host, one image, one device on it, and one actor with its jobs.
