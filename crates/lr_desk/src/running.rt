@@ -2,7 +2,7 @@
 ghost use Rattle.std.specs.Prelude.{◌≡◌, ◌≢◌, ◌≤◌, ℕ, List, [], Err, IsTrue, false, map, string_bytes};
 ghost use Rattle.lr_spec.specs.Rose.{Rose};
 ghost use Rattle.lr_depot.specs.Depot.{IsStart};
-ghost use Rattle.lr_desk.specs.declared.outcome.Outcome.{Outcome as Any};
+ghost use Rattle.lr_desk.specs.declared.outcome.Outcome.{Outcome as AnyOutcome};
 ghost use Rattle.lr_desk.specs.declared.outcome.Outcome.TheVariants as outcome;
 ghost use Rattle.lr_desk.specs.declared.words.Command.TheVariants as command;
 ghost use Rattle.lr_desk.specs.Outcome.{status_of, line_of};
@@ -44,7 +44,7 @@ fn collected<O: Origin>(
 ) -> Result<Vec<u8>, Outcome>
     requires fresh { depot.old.log ≡ [] }
     ensures start { depot.new.start ≡ depot.old.start }
-    ensures walk { (o : Any) × (text : List ℕ) × Collected job depot.new.log o text × Yields o text result }
+    ensures walk { (o : AnyOutcome) × (text : List ℕ) × Collected job depot.new.log o text × Yields o text result }
     ensures never_falls { O.faults depot.old.origin ≤ O.faults depot.new.origin }
     ensures cause { result ≡ Err outcome.OriginFault → Rose (O.faults depot.old.origin) (O.faults depot.new.origin) }
 {
@@ -60,7 +60,7 @@ fn moved<O: Origin>(
 ) -> Result<Vec<u8>, Outcome>
     requires fresh { depot.old.log ≡ [] }
     ensures start { depot.new.start ≡ depot.old.start }
-    ensures walk { (o : Any) × (text : List ℕ) × Moved image depot.new.log o text × Yields o text result }
+    ensures walk { (o : AnyOutcome) × (text : List ℕ) × Moved image depot.new.log o text × Yields o text result }
     ensures never_falls { O.faults depot.old.origin ≤ O.faults depot.new.origin }
     ensures cause { result ≡ Err outcome.OriginFault → Rose (O.faults depot.old.origin) (O.faults depot.new.origin) }
 {
@@ -72,7 +72,7 @@ fn moved<O: Origin>(
 fn listed<O: Origin>(alloc: Global, depot: &Depot<O>) -> Result<Vec<u8>, Outcome>
     requires fresh { depot.now.log ≡ [] }
     requires begun { IsStart depot.now.start }
-    ensures { (o : Any) × (text : List ℕ) × HasWalked command.Roots depot.now.start.view depot.now.log o text × Yields o text result }
+    ensures { (o : AnyOutcome) × (text : List ℕ) × HasWalked command.Roots depot.now.start.view depot.now.log o text × Yields o text result }
 {
     match view_text(alloc, depot.catalog()) {
         Ok(text) => Ok(text),
@@ -89,7 +89,7 @@ fn made<O: Origin>(
     requires fresh { depot.old.log ≡ [] }
     requires begun { IsStart depot.old.start }
     ensures start { depot.new.start ≡ depot.old.start }
-    ensures walk { (o : Any) × (text : List ℕ) × HasWalked command depot.old.start.view depot.new.log o text × Yields o text result }
+    ensures walk { (o : AnyOutcome) × (text : List ℕ) × HasWalked command depot.old.start.view depot.new.log o text × Yields o text result }
     ensures never_falls { O.faults depot.old.origin ≤ O.faults depot.new.origin }
     ensures cause { result ≡ Err outcome.OriginFault → Rose (O.faults depot.old.origin) (O.faults depot.new.origin) }
 {

@@ -1,7 +1,7 @@
 //! The words of commands.
 ghost use Rattle.std.specs.Prelude.{◌≡◌, ◌≢◌, ℕ, [], ◌∷◌, IfSome, IfNone, decimal, map, string_bytes};
 ghost use Rattle.lr_origin.specs.Text.{IsRoot};
-ghost use Rattle.lr_desk.specs.declared.words.Command.{Command as Any};
+ghost use Rattle.lr_desk.specs.declared.words.Command.{Command as AnyCommand};
 ghost use Rattle.lr_desk.specs.Words.{IsCommand, AreWords, words_of};
 
 use lr_origin::ImageName;
@@ -38,7 +38,7 @@ fn root_of(word: &[u8]) -> Option<u32>
 // The command of one word.
 fn alone(name: &[u8]) -> Option<Command>
     ensures found { IfSome result (λ c. IsCommand c × (words_of c ≡ name.now ∷ [])) }
-    ensures only { IfNone result ((c : Any) → IsCommand c → words_of c ≢ name.now ∷ []) }
+    ensures only { IfNone result ((c : AnyCommand) → IsCommand c → words_of c ≢ name.now ∷ []) }
 {
     if is(name, b"roots") {
         return Some(Command::Roots);
@@ -49,7 +49,7 @@ fn alone(name: &[u8]) -> Option<Command>
 // The command of two words.
 fn with_argument(name: &[u8], argument: &[u8]) -> Option<Command>
     ensures found { IfSome result (λ c. IsCommand c × (words_of c ≡ name.now ∷ argument.now ∷ [])) }
-    ensures only { IfNone result ((c : Any) → IsCommand c → words_of c ≢ name.now ∷ argument.now ∷ []) }
+    ensures only { IfNone result ((c : AnyCommand) → IsCommand c → words_of c ≢ name.now ∷ argument.now ∷ []) }
 {
     if is(name, b"rotate") {
         let salt = key_of(argument)?;
