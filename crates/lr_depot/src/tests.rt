@@ -1,6 +1,6 @@
 ghost use Rattle.std.specs.Prelude.{◌≡◌};
 
-use lr_depot::{Depot, DepotCall, DepotNoted, DepotReply, DepotTold, StartCause, StartError};
+use crate::{Depot, DepotCall, DepotNoted, DepotReply, DepotTold, StartCause, StartError};
 use lr_manifest::{CHUNK, Chunk, Manifest};
 use lr_object::{Entry, Object};
 use lr_origin::{
