@@ -11,3 +11,4 @@ pub mod LoadTurns
 pub mod Steady
 pub mod Table
 pub mod Bounds
+pub mod Runs

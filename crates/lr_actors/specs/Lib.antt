@@ -9,6 +9,7 @@ pub mod Lifted
 pub mod Collecting
 pub mod Migrating
 pub mod Creating
+pub mod Running
 pub mod Jobs
 pub mod Records
 pub mod Damaged
