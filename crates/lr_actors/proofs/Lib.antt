@@ -12,3 +12,4 @@ pub mod Steady
 pub mod Table
 pub mod Bounds
 pub mod Runs
+pub mod Begins

@@ -11,6 +11,7 @@ pub mod Migrating
 pub mod Creating
 pub mod Running
 pub mod Jobs
+pub mod Begun
 pub mod Records
 pub mod Damaged
 pub mod Bounds

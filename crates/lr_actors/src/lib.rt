@@ -10,6 +10,7 @@
 #![tactic(auto)]
 
 mod action;
+mod begin;
 mod bytes;
 mod collecting;
 mod creating;
@@ -24,6 +25,7 @@ mod single;
 mod turns;
 
 pub use action::{ActorCall, ActorReply, JobAction};
+pub use begin::Begun;
 pub use collecting::CollectingJob;
 pub use creating::CreatingJob;
 pub use forge::ForgeJob;
