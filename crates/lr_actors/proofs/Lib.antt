@@ -13,3 +13,5 @@ pub mod Table
 pub mod Bounds
 pub mod Runs
 pub mod Begins
+pub mod Accounted
+pub mod Ended

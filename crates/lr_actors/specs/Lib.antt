@@ -13,5 +13,6 @@ pub mod Running
 pub mod Jobs
 pub mod Begun
 pub mod Records
+pub mod Accounts
 pub mod Damaged
 pub mod Bounds

@@ -124,12 +124,7 @@ pub(crate) fn hand_out(job: Running) -> JobTurn
     }
 }
 
-fn take_serving(
-    device: u32,
-    mut job: DeviceJob,
-    context: &Context,
-    reply: ActorReply,
-) -> Running
+fn take_serving(device: u32, mut job: DeviceJob, context: &Context, reply: ActorReply) -> Running
     requires handed { job.ready ≡ false }
     requires home { slice_get (seen_context context.now).devices device ≡ Some job.work.place }
     requires admitted { serving.Admits job.work job.need (seen_reply reply) }
