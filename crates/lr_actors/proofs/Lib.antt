@@ -11,3 +11,7 @@ pub mod LoadTurns
 pub mod Steady
 pub mod Table
 pub mod Bounds
+pub mod Runs
+pub mod Begins
+pub mod Accounted
+pub mod Ended

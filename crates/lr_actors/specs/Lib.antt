@@ -9,7 +9,10 @@ pub mod Lifted
 pub mod Collecting
 pub mod Migrating
 pub mod Creating
+pub mod Running
 pub mod Jobs
+pub mod Begun
 pub mod Records
+pub mod Accounts
 pub mod Damaged
 pub mod Bounds

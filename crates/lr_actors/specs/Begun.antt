@@ -1,0 +1,48 @@
+-- How jobs begin.
+use Rattle.std.specs.Prelude.{◌≡◌, ◌≤◌, ◌<◌, ℕ, List, [], length, true, Some, slice_get, ⊤}
+use Rattle.lr_device.specs.PlainDevice.{size_of}
+use Rattle.lr_walk.specs.declared.trail.Answer.{Answer}
+use Rattle.lr_walk.specs.Steps.{Step}
+use Rattle.lr_walk.specs.Calls.{DevicePlace}
+use Rattle.lr_walk.specs.Jobs.{Context}
+use Rattle.lr_actors.specs.declared.running.Running.{Running}
+use Rattle.lr_actors.specs.declared.begin.Begun.{Begun}
+use Rattle.lr_actors.specs.declared.begin.Begun.TheVariants as begun
+use Rattle.lr_actors.specs.Places.{IsPlace}
+use Rattle.lr_actors.specs.Running.{Task, Walk, task_of, is_ready, StandsFor, IsAtHome}
+use Rattle.lr_actors.specs.Jobs.{Job, calls, creates, closes, drops_stripe, flips_stripe, forges, WalksJob}
+
+-- there are at least five nodes, and each device has a key for each chunk
+pub record IsContext (context : Context) : Type 0 where
+  pub nodes : 5 ≤ context.nodes
+  pub keys : (device : ℕ) (place : DevicePlace) → slice_get context.devices device ≡ Some place → IsPlace place
+
+-- the device is one of these
+abbrev pub HasDevice : Context → ℕ → Type 0
+HasDevice context device = device < length context.devices
+
+-- The job names a device of these, and is within the limits of a script.
+abbrev pub IsJob : Context → Job → Type 0
+IsJob context (calls device call) = HasDevice context device × (size_of call ≤ 1048576)
+IsJob context (creates image tenant raw) = length raw ≤ 10737418240
+IsJob context (closes device) = HasDevice context device
+IsJob context (drops_stripe index device chunk) = HasDevice context device
+IsJob context (flips_stripe index device chunk at) = HasDevice context device × (at < 131072)
+IsJob context (forges device chunk) = HasDevice context device
+IsJob context job = ⊤
+
+-- the walks of a task are those of the job
+abbrev pub IsTask : Context → Job → Task → Type 0
+IsTask context job task = (steps : List Step) (answer : Answer) → Walk task steps answer → WalksJob context job steps answer
+
+-- A job under way with no step made.
+pub record IsBegun (context : Context) (job : Job) (r : Running) : Type 0 where
+  pub ready : is_ready r ≡ true
+  pub stands : StandsFor r []
+  pub task : IsTask context job (task_of r)
+  pub home : IsAtHome context r
+
+-- A job was begun, or it ended with no step.
+abbrev pub Begins : Context → Job → Begun → Type 0
+Begins context job (begun.Under r) = IsBegun context job r
+Begins context job (begun.Over answer) = WalksJob context job [] answer

@@ -1,0 +1,107 @@
+-- A job under way, of any kind, as contracts see it.
+use Rattle.std.specs.Prelude.{◌≡◌, ℕ, List, ◌++◌, Bool, true, false, Some, slice_get, ⊤}
+use Rattle.lr_collector.specs.declared.collect.CollectJob.{CollectJob}
+use Rattle.lr_walk.specs.declared.trail.Answer.{Answer}
+use Rattle.lr_walk.specs.Walk.{Walks}
+use Rattle.lr_walk.specs.Stands.{IsFront}
+use Rattle.lr_walk.specs.Steps.{Reply, Step}
+use Rattle.lr_walk.specs.Jobs.{Context}
+use Rattle.lr_actors.specs.declared.single.Single.{Single}
+use Rattle.lr_actors.specs.declared.running.Running.{Running}
+use Rattle.lr_actors.specs.declared.running.Running.TheVariants as running
+use Rattle.lr_actors.specs.declared.running.JobTurn.{JobTurn}
+use Rattle.lr_actors.specs.declared.running.JobTurn.TheVariants as turn
+use Rattle.lr_actors.specs.Asked.{Asked, an_end, HandsCall, MayCall, Adds}
+use Rattle.lr_actors.specs.Serving as serving
+use Rattle.lr_actors.specs.Singles as singles
+use Rattle.lr_actors.specs.Forging as forging
+use Rattle.lr_actors.specs.Collecting as collecting
+use Rattle.lr_actors.specs.Migrating as migrating
+use Rattle.lr_actors.specs.Creating as creating
+
+-- what a job under way is of
+pub data Task : Type 0 where
+  serves : (work : serving.Work) → Task
+  makes : (single : Single) → Task
+  forges : (target : forging.Target) → Task
+  collects : (job : CollectJob) → Task
+  migrates : (image : List ℕ) → Task
+  creates : (image tenant raw : List ℕ) → Task
+
+-- the walk of a task
+abbrev pub Walk : Task → Walks Step Answer
+Walk (serves work) = serving.Serves work
+Walk (makes single) = singles.MakesOne single
+Walk (forges target) = forging.Forging target
+Walk (collects job) = collecting.Collecting job
+Walk (migrates image) = migrating.Migrating image
+Walk (creates image tenant raw) = creating.Creating image tenant raw
+
+abbrev pub task_of : Running → Task
+task_of (running.Serves device p) = serves p.work
+task_of (running.Makes p) = makes p.single
+task_of (running.Forges p) = forges p.target
+task_of (running.Collects p) = collects p.job
+task_of (running.Migrates p) = migrates p.image
+task_of (running.Creates p) = creates p.create.image p.create.tenant p.raw
+
+abbrev pub asked : Running → Asked
+asked (running.Serves device p) = serving.asked p.work p.need
+asked (running.Makes p) = singles.asked p.single p.need
+asked (running.Forges p) = forging.asked p.target p.need
+asked (running.Collects p) = collecting.asked p
+asked (running.Migrates p) = migrating.asked p
+asked (running.Creates p) = creating.asked p
+
+-- its call is prepared, or its end
+abbrev pub is_ready : Running → Bool
+is_ready (running.Serves device p) = p.ready
+is_ready (running.Makes p) = p.ready
+is_ready (running.Forges p) = p.ready
+is_ready (running.Collects p) = p.ready
+is_ready (running.Migrates p) = p.ready
+is_ready (running.Creates p) = p.create.ready
+
+-- the replies that it takes
+abbrev pub Admits : Running → Reply → Type 0
+Admits (running.Serves device p) reply = serving.Admits p.work p.need reply
+Admits (running.Makes p) reply = singles.Admits p.single p.need reply
+Admits (running.Forges p) reply = forging.Admits p.need reply
+Admits (running.Collects p) reply = collecting.Admits p reply
+Admits (running.Migrates p) reply = migrating.Admits p reply
+Admits (running.Creates p) reply = creating.Admits p reply
+
+-- it stands for these steps
+abbrev pub StandsFor : Running → List Step → Type 0
+StandsFor (running.Serves device p) steps = serving.StandsFor p steps
+StandsFor (running.Makes p) steps = singles.StandsFor p steps
+StandsFor (running.Forges p) steps = forging.StandsFor p steps
+StandsFor (running.Collects p) steps = collecting.StandsFor p steps
+StandsFor (running.Migrates p) steps = migrating.StandsFor p steps
+StandsFor (running.Creates p) steps = creating.StandsFor p steps
+
+-- a device call is on the device of its number
+abbrev pub IsAtHome : Context → Running → Type 0
+IsAtHome context (running.Serves device p) = slice_get context.devices device ≡ Some p.work.place
+IsAtHome context job = ⊤
+
+-- A job took a reply.
+pub record Went (old : Running) (reply : Reply) (new : Running) : Type 0 where
+  pub task : task_of new ≡ task_of old
+  pub home : (context : Context) → IsAtHome context old → IsAtHome context new
+  pub ready : is_ready new ≡ true
+  pub stands : (steps more : List Step) → Adds (asked old) reply more → StandsFor old steps → StandsFor new (steps ++ more)
+
+-- The same job, whose call was handed out. With that call and any reply to it, what it stands for is a walk or the front of one.
+pub record IsOut (old new : Running) : Type 0 where
+  pub task : task_of new ≡ task_of old
+  pub home : (context : Context) → IsAtHome context old → IsAtHome context new
+  pub call : asked new ≡ asked old
+  pub out : is_ready new ≡ false
+  pub stands : (steps : List Step) → StandsFor old steps → StandsFor new steps
+  pub front : (steps more : List Step) (reply : Reply) → Admits old reply → Adds (asked old) reply more → StandsFor old steps → IsFront (Walk (task_of old)) (steps ++ more)
+
+-- A job hands out its call, or it has ended with a walk.
+abbrev pub HandsOut : Running → JobTurn → Type 0
+HandsOut old (turn.Goes new call) = IsOut old new × HandsCall call (asked old) × MayCall call
+HandsOut old (turn.Ends answer) = (steps : List Step) → StandsFor old steps → Walk (task_of old) steps answer
