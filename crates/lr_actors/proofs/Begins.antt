@@ -1,5 +1,5 @@
 -- how jobs begin
-use Rattle.std.proofs.Common.{◌≡◌, ℕ, List, [], Some, None, refl, sym, subst, ◌∙◌, true, inl}
+use Rattle.std.proofs.Common.{◌≡◌, ℕ, List, [], Some, None, refl, sym, subst, true, inl}
 use Rattle.std.specs.Prelude.{slice_get}
 use Rattle.lr_manifest.specs.declared.name.Name.{Name}
 use Rattle.lr_device.specs.declared.call.DeviceCall.{DeviceCall}

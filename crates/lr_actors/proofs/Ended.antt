@@ -1,5 +1,5 @@
 -- a job that ended has an answer of its own
-use Rattle.std.proofs.Common.{◌≡◌, ◌⊎◌, inl, inr, ℕ, List, [], ◌∷◌, ◌++◌, Option, Some, None, refl, sym, subst, ◌∙◌}
+use Rattle.std.proofs.Common.{◌≡◌, inl, inr, ℕ, List, [], ◌∷◌, ◌++◌, Option, Some, None, refl, sym, subst}
 use Rattle.std.specs.Prelude.{slice_get}
 use Rattle.lr_manifest.specs.declared.name.Name.{Name}
 use Rattle.lr_stripe.specs.declared.stripe.Stripe.{Stripe}

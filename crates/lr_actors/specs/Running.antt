@@ -11,7 +11,7 @@ use Rattle.lr_actors.specs.declared.running.Running.{Running}
 use Rattle.lr_actors.specs.declared.running.Running.TheVariants as running
 use Rattle.lr_actors.specs.declared.running.JobTurn.{JobTurn}
 use Rattle.lr_actors.specs.declared.running.JobTurn.TheVariants as turn
-use Rattle.lr_actors.specs.Asked.{Asked, an_end, HandsCall, MayCall, Adds}
+use Rattle.lr_actors.specs.Asked.{Asked, HandsCall, MayCall, Adds}
 use Rattle.lr_actors.specs.Serving as serving
 use Rattle.lr_actors.specs.Singles as singles
 use Rattle.lr_actors.specs.Forging as forging
