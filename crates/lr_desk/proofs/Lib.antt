@@ -1,6 +1,9 @@
 mod Answering
 mod Carrying
+mod Causing
+mod Commanding
 mod Gathering
+mod Imaging
 mod Logs
 mod Telling
 mod Viewing
