@@ -2,6 +2,7 @@ mod Answering
 mod Carrying
 mod Causing
 mod Commanding
+mod Doing
 mod Gathering
 mod Imaging
 mod Logs
