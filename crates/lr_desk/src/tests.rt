@@ -163,10 +163,10 @@ fn a_failed_read_makes_no_image(rt: HostRuntime) -> Result<(), Fail> {
         &[1],
     )?;
     assert_eq!(rt; stopped.status, 4);
-    assert!(rt; stopped.line.as_slice() == b"read fault");
+    assert!(rt; stopped.line.as_slice() == b"read fault".as_slice());
     let (listed, text) = does(alloc, stopped.origin, &["roots"], &[], &[])?;
     assert_eq!(rt; listed.status, 0);
-    assert!(rt; text.as_slice() == b"root 1 active images 0 chunks 0\n");
+    assert!(rt; text.as_slice() == b"root 1 active images 0 chunks 0\n".as_slice());
     Ok(())
 }
 
@@ -182,6 +182,6 @@ fn a_long_source_makes_no_image(rt: HostRuntime) -> Result<(), Fail> {
         &[],
     )?;
     assert_eq!(rt; stopped.status, 8);
-    assert!(rt; stopped.line.as_slice() == b"refused too long");
+    assert!(rt; stopped.line.as_slice() == b"refused too long".as_slice());
     Ok(())
 }
