@@ -169,19 +169,3 @@ fn a_failed_read_makes_no_image(rt: HostRuntime) -> Result<(), Fail> {
     assert!(rt; text.as_slice() == b"root 1 active images 0 chunks 0\n".as_slice());
     Ok(())
 }
-
-#[test]
-fn a_long_source_makes_no_image(rt: HostRuntime) -> Result<(), Fail> {
-    let alloc = rt.alloc();
-    let bytes = vec![in alloc; 7u8; 67_108_865]?;
-    let (stopped, _) = does(
-        alloc,
-        with_root(alloc)?,
-        &["create", "a", SECOND],
-        &bytes,
-        &[],
-    )?;
-    assert_eq!(rt; stopped.status, 8);
-    assert!(rt; stopped.line.as_slice() == b"refused too long".as_slice());
-    Ok(())
-}
