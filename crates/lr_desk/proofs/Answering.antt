@@ -5,7 +5,7 @@ use Rattle.lr_spec.specs.Rose.{Rose}
 use Rattle.lr_spec.specs.Told.{Told}
 use Rattle.lr_origin.specs.Objects.{Objects}
 use Rattle.lr_origin.specs.declared.key.KeyKind.{KeyKind}
-use Rattle.lr_roots.specs.View.{View}
+use Rattle.lr_desk.specs.declared.outcome.Refusal.TheVariants as refusal
 use Rattle.lr_roots.specs.Names.{IsOneOf}
 use Rattle.lr_opening.specs.declared.cause.StartCause.{StartCause}
 use Rattle.lr_opening.specs.declared.cause.StartCause.TheVariants as cause
@@ -37,10 +37,11 @@ use Rattle.lr_desk.specs.declared.outcome.Outcome.TheVariants.{Done, Usage, Read
 use Rattle.lr_desk.specs.declared.words.Command.{Command}
 use Rattle.lr_desk.specs.Words.{AreWords, IsCommand, words_of}
 use Rattle.lr_desk.specs.Outcome.{status_of, line_of}
-use Rattle.lr_desk.specs.Ends.{outcome_of, HasWalked, IsWritten, IsFinish, HasRun, IsWalkOutcome}
-use Rattle.lr_desk.specs.Causes.{Met, IsDepots, Tells, Comes, cause_of, IsForeignEnd, IsManyEnd, IsExact, IsComplete, Completes, IsAnswered, HasCommanded}
+use Rattle.lr_desk.specs.Ends.{outcome_of, Setting, setting, HasWalked, IsWritten, IsFinish, HasRun, IsWalkOutcome}
+use Rattle.lr_desk.specs.Causes.{Met, IsDepots, Tells, IsTooLong, Refuses, Comes, cause_of, IsForeignEnd, IsManyEnd, IsExact, IsComplete, Completes, IsAnswered, HasCommanded}
 use Rattle.lr_desk.proofs.Walking.{walked_kind}
-use Rattle.lr_desk.proofs.Telling.{walked_tells, walked_is}
+use Rattle.lr_desk.proofs.Commanding.{walked_tells, walked_is}
+use Rattle.lr_desk.proofs.Causing.{walked_sealed, walked_long}
 
 -- ---- no entry tells of a spoiled key
 
@@ -121,11 +122,11 @@ module _ (m : Met) (c : StartCause) (is : IsCause m.objects m.origin_before m.or
   cause_rose (Some k) h = h.0
 
   cause_complete : (c : StartCause) → IsCause m.objects m.origin_before m.origin_after c → Completes m (cause_of c)
-  cause_complete (cause.Fault k) h words still sink os t sound few = absurd (still (cause_rose k h))
-  cause_complete (cause.Spoiled k) h words still sink os t sound few = absurd (h.1 os t)
-  cause_complete (cause.Foreign q) h words still sink os t sound few = absurd (sound_store_is_not_foreign os sound.0.0 sound.0.1 sound.0.2 q.items (h os t).0)
-  cause_complete cause.TooMany h words still sink os t sound few = absurd (fewer_not_many os (2 ^ 32) few (h os t))
-  cause_complete cause.OutOfMemory h words still sink os t sound few = tt
+  cause_complete (cause.Fault k) h words still source sink os t sound few = absurd (still (cause_rose k h))
+  cause_complete (cause.Spoiled k) h words still source sink os t sound few = absurd (h.1 os t)
+  cause_complete (cause.Foreign q) h words still source sink os t sound few = absurd (sound_store_is_not_foreign os sound.0.0 sound.0.1 sound.0.2 q.items (h os t).0)
+  cause_complete cause.TooMany h words still source sink os t sound few = absurd (fewer_not_many os (2 ^ 32) few (h os t))
+  cause_complete cause.OutOfMemory h words still source sink os t sound few = tt
 
   pub answered_by_cause : (status : ℕ) (line : List ℕ) → m.log ≡ [] → AreWords m.words → status ≡ status_of (cause_of c) → line ≡ line_of (cause_of c) → IsAnswered m status line
   answered_by_cause status line none words gave says = record {
@@ -191,10 +192,13 @@ finish_is (Foreign v) e text before after f b = sym f.0
 finish_is (Spoiled k) e text before after f b = sym f.0
 finish_is TooMany e text before after f b = sym f.0
 
+finish_refused : (o : Outcome) (r : Refusal) (text : List ℕ) (before after : Option (List ℕ)) → IsFinish o text before after (Refused r) → o ≡ Refused r
+finish_refused Done r text before after f = absurd f
+finish_refused o r text before after f = sym f.0
+
 -- an outcome of a command that ran
 IsRunOutcome : Outcome → Type 0
 IsRunOutcome Usage = ⊥
-IsRunOutcome ReadFault = ⊥
 IsRunOutcome (Foreign v) = ⊥
 IsRunOutcome TooMany = ⊥
 IsRunOutcome e = Unit {0}
@@ -202,7 +206,7 @@ IsRunOutcome e = Unit {0}
 written_run : (e : Outcome) (text : List ℕ) (before after : Option (List ℕ)) → IsWritten before text after e → IsRunOutcome e
 unfolding IsRunOutcome
 written_run Usage text before after w = w
-written_run ReadFault text before after w = w
+written_run ReadFault text before after w = absurd w
 written_run (Foreign v) text before after w = w
 written_run TooMany text before after w = w
 written_run e text before after w = tt
@@ -210,6 +214,7 @@ written_run e text before after w = tt
 walk_run : (o : Outcome) → IsWalkOutcome o → IsRunOutcome o
 unfolding IsRunOutcome
 walk_run Done k = tt
+walk_run ReadFault k = tt
 walk_run OriginFault k = tt
 walk_run Memory k = tt
 walk_run (Refused r) k = tt
@@ -218,68 +223,76 @@ walk_run o k = absurd k
 
 finish_run : (o e : Outcome) (text : List ℕ) (before after : Option (List ℕ)) → IsWalkOutcome o → IsFinish o text before after e → IsRunOutcome e
 finish_run Done e text before after k f = written_run e text before after f
+finish_run ReadFault e text before after k f = subst IsRunOutcome (sym f.0) (walk_run ReadFault k)
 finish_run OriginFault e text before after k f = subst IsRunOutcome (sym f.0) (walk_run OriginFault k)
 finish_run Memory e text before after k f = subst IsRunOutcome (sym f.0) (walk_run Memory k)
 finish_run (Refused r) e text before after k f = subst IsRunOutcome (sym f.0) (walk_run (Refused r) k)
 finish_run (Spoiled key) e text before after k f = subst IsRunOutcome (sym f.0) (walk_run (Spoiled key) k)
 finish_run o e text before after k f = absurd k
 
-module _ (m : Met) (c : Command) (v : View) (before after : Option (List ℕ)) where
-  run_tells : (e : Outcome) → HasRun c v m.log before after e → IsDepots e → Tells m.log e
+module _ (m : Met) (c : Command) (s : Setting) (before after : Option (List ℕ)) where
+  run_tells : (e : Outcome) → HasRun c s m.log before after e → IsDepots e → Tells m.log e
   run_tells e ran b =
       let same = finish_is ran.0 e ran.1 before after ran.3 b in
-      subst (Tells m.log) same (walked_tells c v m.log ran.0 ran.1 ran.2 (subst IsDepots (sym same) b))
+      subst (Tells m.log) same (walked_tells c s m.log ran.0 ran.1 ran.2 (subst IsDepots (sym same) b))
 
-  run_comes : (e : Outcome) → AreWords m.words → HasRun c v m.log before after e → IsRunOutcome e → (e ≡ OriginFault → Rose m.origin_before m.origin_after) → (e ≡ WriteFault → Rose m.sink_before m.sink_after) → Comes m e
-  unfolding IsRunOutcome
-  run_comes Done words ran k origin sink = words
-  run_comes Usage words ran k origin sink = absurd k
-  run_comes ReadFault words ran k origin sink = absurd k
-  run_comes WriteFault words ran k origin sink = sink refl
-  run_comes OriginFault words ran k origin sink = origin refl
-  run_comes Memory words ran k origin sink = tt
-  run_comes (Refused r) words ran k origin sink = run_tells (Refused r) ran tt
-  run_comes (Foreign q) words ran k origin sink = absurd k
-  run_comes (Spoiled key) words ran k origin sink = inl (run_tells (Spoiled key) ran tt)
-  run_comes TooMany words ran k origin sink = absurd k
+  module _ (worded : m.words ≡ words_of c) (told : s.source ≡ m.source) where
+    run_refuses : (r : Refusal) → HasRun c s m.log before after (Refused r) → Refuses m r
+    run_refuses refusal.Sealed ran = walked_sealed c s m.log ran.0 ran.1 m.words ran.2 worded (finish_refused ran.0 refusal.Sealed ran.1 before after ran.3)
+    run_refuses refusal.TooLong ran = subst (IsTooLong m.words) told (walked_long c s m.log ran.0 ran.1 m.words ran.2 worded (finish_refused ran.0 refusal.TooLong ran.1 before after ran.3))
+    run_refuses r ran = run_tells (Refused r) ran tt
+
+    run_comes : (e : Outcome) → AreWords m.words → HasRun c s m.log before after e → IsRunOutcome e → (e ≡ OriginFault → Rose m.origin_before m.origin_after) → (e ≡ ReadFault → Rose m.source_before m.source_after)
+        → (e ≡ WriteFault → Rose m.sink_before m.sink_after) → Comes m e
+    unfolding IsRunOutcome
+    run_comes Done words ran k origin source sink = words
+    run_comes Usage words ran k origin source sink = absurd k
+    run_comes ReadFault words ran k origin source sink = source refl
+    run_comes WriteFault words ran k origin source sink = sink refl
+    run_comes OriginFault words ran k origin source sink = origin refl
+    run_comes Memory words ran k origin source sink = tt
+    run_comes (Refused r) words ran k origin source sink = run_refuses r ran
+    run_comes (Foreign q) words ran k origin source sink = absurd k
+    run_comes (Spoiled key) words ran k origin source sink = inl (run_tells (Spoiled key) ran tt)
+    run_comes TooMany words ran k origin source sink = absurd k
 
   run_complete : (start : Start) (e : Outcome) → IsStart start → start.objects ≡ m.objects → Told start.objects (λ os. (n : Objects) × LeadsTo (first_state start) os m.log n)
-      → HasRun c v m.log before after e → IsRunOutcome e → (e ≡ OriginFault → Rose m.origin_before m.origin_after) → (e ≡ WriteFault → Rose m.sink_before m.sink_after) → Completes m e
+      → HasRun c s m.log before after e → IsRunOutcome e → (e ≡ OriginFault → Rose m.origin_before m.origin_after) → (e ≡ ReadFault → Rose m.source_before m.source_after) → (e ≡ WriteFault → Rose m.sink_before m.sink_after) → Completes m e
   unfolding IsRunOutcome
-  run_complete start Done begun same leads ran k origin sink words still quiet os t sound few = tt
-  run_complete start Memory begun same leads ran k origin sink words still quiet os t sound few = tt
-  run_complete start (Refused r) begun same leads ran k origin sink words still quiet os t sound few = tt
-  run_complete start WriteFault begun same leads ran k origin sink words still quiet os t sound few = absurd (quiet (sink refl))
-  run_complete start OriginFault begun same leads ran k origin sink words still quiet os t sound few = absurd (still (origin refl))
-  run_complete start (Spoiled key) begun same leads ran k origin sink words still quiet os t sound few =
+  run_complete start Done begun same leads ran k origin source sink words still unread quiet os t sound few = tt
+  run_complete start Memory begun same leads ran k origin source sink words still unread quiet os t sound few = tt
+  run_complete start (Refused r) begun same leads ran k origin source sink words still unread quiet os t sound few = tt
+  run_complete start WriteFault begun same leads ran k origin source sink words still unread quiet os t sound few = absurd (quiet (sink refl))
+  run_complete start OriginFault begun same leads ran k origin source sink words still unread quiet os t sound few = absurd (still (origin refl))
+  run_complete start (Spoiled key) begun same leads ran k origin source sink words still unread quiet os t sound few =
       let l = leads os (same ∙ t) in
       absurd (never_told start os m.log l.0 begun (begun.mirrors os (same ∙ t)) sound.1 l.1 key (run_tells (Spoiled key) ran tt))
-  run_complete start Usage begun same leads ran k origin sink words still quiet os t sound few = absurd k
-  run_complete start ReadFault begun same leads ran k origin sink words still quiet os t sound few = absurd k
-  run_complete start (Foreign q) begun same leads ran k origin sink words still quiet os t sound few = absurd k
-  run_complete start TooMany begun same leads ran k origin sink words still quiet os t sound few = absurd k
+  run_complete start Usage begun same leads ran k origin source sink words still unread quiet os t sound few = absurd k
+  run_complete start ReadFault begun same leads ran k origin source sink words still unread quiet os t sound few = absurd (unread (source refl))
+  run_complete start (Foreign q) begun same leads ran k origin source sink words still unread quiet os t sound few = absurd k
+  run_complete start TooMany begun same leads ran k origin source sink words still unread quiet os t sound few = absurd k
 
-  pub answered_by_run : (start : Start) (status : ℕ) (line : List ℕ) (e : Outcome) → IsCommand c → m.words ≡ words_of c → IsStart start → start.objects ≡ m.objects
+  pub answered_by_run : (start : Start) (status : ℕ) (line : List ℕ) (e : Outcome) → IsCommand c → m.words ≡ words_of c → s.source ≡ m.source → IsStart start → start.objects ≡ m.objects
       → Told m.objects (λ os. HasFewer os (2 ^ 32)) → Told start.objects (λ os. (n : Objects) × LeadsTo (first_state start) os m.log n)
-      → HasRun c v m.log before after e → (e ≡ OriginFault → Rose m.origin_before m.origin_after) → (e ≡ WriteFault → Rose m.sink_before m.sink_after)
+      → HasRun c s m.log before after e → (e ≡ OriginFault → Rose m.origin_before m.origin_after) → (e ≡ ReadFault → Rose m.source_before m.source_after) → (e ≡ WriteFault → Rose m.sink_before m.sink_after)
       → status ≡ status_of e → line ≡ line_of e → IsAnswered m status line
-  answered_by_run start status line e is words begun same few leads ran origin sink gave says =
-      let k = finish_run ran.0 e ran.1 before after (walked_kind c v m.log ran.0 ran.1 ran.2) ran.3 in
+  answered_by_run start status line e is words told begun same few leads ran origin source sink gave says =
+      let k = finish_run ran.0 e ran.1 before after (walked_kind c s m.log ran.0 ran.1 ran.2) ran.3 in
       let good : AreWords m.words = (c, is, words) in
       record {
         outcome = e;
         gave = gave;
         says = says;
-        comes = run_comes e good ran k origin sink;
+        comes = run_comes words told e good ran k origin source sink;
         exact = record {
           usage = λ not. absurd (not good);
           told = λ x b t.
-              let o = walked_is c v m.log ran.0 ran.1 ran.2 x b t in
+              let o = walked_is c s m.log ran.0 ran.1 ran.2 x b t in
               finish_from ran.0 e ran.1 before after ran.3 (subst IsDepots (sym o) b) ∙ o;
           foreign = λ _ os t key foreign fewer. absurd (sound_store_is_not_foreign os start.view (begun.mirrors os (same ∙ t)) begun.may.sound key foreign);
           many = λ _ os t many. absurd (fewer_not_many os (2 ^ 32) (few os t) many);
         };
-        complete = run_complete start e begun same leads ran k origin sink;
+        complete = run_complete start e begun same leads ran k origin source sink;
       }
 
 -- ---- from its start to its end
@@ -306,11 +319,11 @@ rose_by before log now (inr last) t = inr last
 rose_by before log now (inl more) t = let one = fault_in log t.0 t.1 (fault_told t.0.reply t.2) in inl (omega (arith, more, one))
 
 module _ {O : Type 0} (objects : O → Option Objects) (faults : O → ℕ) (origin after : O) (first last : Seen O) (left : Left) (catalog : Catalog)
-    (words : List (List ℕ)) (sink_before sink_after : ℕ) (c : Command) (written written_after : Option (List ℕ)) (e : Outcome) (status : ℕ) (line : List ℕ)
+    (words : List (List ℕ)) (source_before source_after sink_before sink_after : ℕ) (c : Command) (source source_left : Option (List ℕ)) (written written_after : Option (List ℕ)) (e : Outcome) (status : ℕ) (line : List ℕ)
     (started : IsStarted objects faults origin first) (same : last.start ≡ first.start) (ended : IsEnded objects faults last after left catalog)
-    (is : IsCommand c) (worded : words ≡ words_of c) (ran : HasRun c first.start.view last.log written written_after e) where
-  ran_left : HasRun c first.start.view left.log written written_after e
-  ran_left = subst (λ l. HasRun c first.start.view l written written_after e) (sym ended.log) ran
+    (is : IsCommand c) (worded : words ≡ words_of c) (ran : HasRun c (setting objects first source source_left) last.log written written_after e) where
+  ran_left : HasRun c (setting objects first source source_left) left.log written written_after e
+  ran_left = subst (λ l. HasRun c (setting objects first source source_left) l written written_after e) (sym ended.log) ran
 
   covers_left : Covers (faults origin) left.log (faults after)
   covers_left =
@@ -323,14 +336,14 @@ module _ {O : Type 0} (objects : O → Option Objects) (faults : O → ℕ) (ori
       (l.0, subst (λ (s : Start). LeadsTo (first_state s) os left.log l.0) same (subst (λ g. LeadsTo (first_state last.start) os g l.0) (sym ended.log) l.2))
 
   abbrev met : Met
-  met = record { words = words; objects = objects origin; origin_before = faults origin; origin_after = faults after; sink_before = sink_before; sink_after = sink_after; log = left.log }
+  met = record { words = words; objects = objects origin; source = source; origin_before = faults origin; origin_after = faults after; source_before = source_before; source_after = source_after; sink_before = sink_before; sink_after = sink_after; log = left.log }
 
-  pub answered_started : (e ≡ WriteFault → Rose sink_before sink_after) → status ≡ status_of e → line ≡ line_of e
-      → IsAnswered (record { words = words; objects = objects origin; origin_before = faults origin; origin_after = faults after; sink_before = sink_before; sink_after = sink_after; log = left.log }) status line
-  answered_started sink gave says =
-      answered_by_run met c first.start.view written written_after first.start status line e is worded started.start started.told started.few leads_left ran_left
-      (λ s. rose_by (faults origin) left.log (faults after) covers_left (subst (Tells left.log) s (run_tells met c first.start.view written written_after e ran_left (subst IsDepots (sym s) tt))))
-      sink gave says
+  pub answered_started : (e ≡ ReadFault → Rose source_before source_after) → (e ≡ WriteFault → Rose sink_before sink_after) → status ≡ status_of e → line ≡ line_of e
+      → IsAnswered (record { words = words; objects = objects origin; source = source; origin_before = faults origin; origin_after = faults after; source_before = source_before; source_after = source_after; sink_before = sink_before; sink_after = sink_after; log = left.log }) status line
+  answered_started read sink gave says =
+      answered_by_run met c (setting objects first source source_left) written written_after first.start status line e is worded refl started.start started.told started.few leads_left ran_left
+      (λ s. rose_by (faults origin) left.log (faults after) covers_left (subst (Tells left.log) s (run_tells met c (setting objects first source source_left) written written_after e ran_left (subst IsDepots (sym s) tt))))
+      read sink gave says
 
-  pub has_commanded : status ≡ status_of e → HasCommanded objects faults words origin written after written_after left status
+  pub has_commanded : status ≡ status_of e → HasCommanded objects faults words origin source source_left written after written_after left status
   has_commanded gave = record { first = first; last = last; catalog = catalog; started = started; same = same; ended = ended; command = c; is = is; worded = worded; outcome = e; gave = gave; ran = ran_left }

@@ -1,6 +1,10 @@
 mod Answering
 mod Carrying
+mod Causing
+mod Commanding
+mod Doing
 mod Gathering
+mod Imaging
 mod Logs
 mod Telling
 mod Viewing

@@ -2,7 +2,6 @@
 use Rattle.std.proofs.Common.{◌≡◌, ℕ, zero, suc, List, [], ◌∷◌, ◌++◌, map, length, Option, Some, None, refl, ap, subst, sym, ◌∙◌, inl, inr}
 use Rattle.std.specs.Prelude.{◌⊎◌}
 use Rattle.lr_spec.specs.Rose.{next_count}
-use Rattle.lr_roots.specs.View.{View}
 use Rattle.lr_roots.specs.Names.{IsOneOf}
 use Rattle.lr_depot.specs.Machine.{LogEntry}
 use Rattle.lr_walk.specs.Walk.{Walks}
@@ -13,10 +12,8 @@ use Rattle.lr_collector.specs.Collection.{Ending, with_reply, with_count, with_m
 use Rattle.lr_migrator.specs.Migration as moves
 use Rattle.lr_desk.specs.declared.outcome.Outcome.{Outcome}
 use Rattle.lr_desk.specs.declared.outcome.Outcome.TheVariants.{Done, Memory, OriginFault, Refused, Spoiled}
-use Rattle.lr_desk.specs.declared.words.Command.{Command}
-use Rattle.lr_desk.specs.declared.words.Command.TheVariants as command
 use Rattle.lr_desk.specs.Drive.{GoesOn, HasCollected, HasMoved}
-use Rattle.lr_desk.specs.Ends.{outcome_of, outcome_at, Collected, outcome_moved, Moved, HasWalked}
+use Rattle.lr_desk.specs.Ends.{outcome_of, outcome_at, Collected, outcome_moved, Moved}
 use Rattle.lr_desk.specs.Causes.{IsDepots, Tells}
 
 -- ---- entries and steps
@@ -26,7 +23,7 @@ kept_one memory t xs b = absurd b
 kept_one nothing t xs b = absurd b
 kept_one r t xs b = inl refl
 
-kept_rest : (r : Reply) (t s : Step) (xs : List Step) → IsOneOf xs s → IsOneOf (with_logged r t xs) s
+pub kept_rest : (r : Reply) (t s : Step) (xs : List Step) → IsOneOf xs s → IsOneOf (with_logged r t xs) s
 kept_rest memory t s xs i = i
 kept_rest nothing t s xs i = i
 kept_rest r t s xs i = inr i
@@ -46,7 +43,7 @@ from_logged : (steps : List Step) (s : Step) → IsOneOf (logged steps) s → Is
 from_logged [] s none = none
 from_logged (t ∷ steps) s i = elim (kept_from t.reply t s (logged steps) i) [ inl e ↦ inl e | inr rest ↦ inr (from_logged steps s rest) ]
 
-in_map : (xs : List LogEntry) (s : Step) → IsOneOf (map step_of xs) s → (e : LogEntry) × IsOneOf xs e × (s ≡ step_of e)
+pub in_map : (xs : List LogEntry) (s : Step) → IsOneOf (map step_of xs) s → (e : LogEntry) × IsOneOf xs e × (s ≡ step_of e)
 in_map [] s none = absurd none
 in_map (x ∷ xs) s (inl e) = (x, inl refl, e)
 in_map (x ∷ xs) s (inr i) = let m = in_map xs s i in (m.0, inr m.1, m.2)
@@ -56,12 +53,12 @@ to_map [] e none = none
 to_map (x ∷ xs) e (inl s) = inl (ap step_of s)
 to_map (x ∷ xs) e (inr i) = inr (to_map xs e i)
 
-step_tells : (log : List LogEntry) (steps : List Step) (s : Step) → GoesOn [] log steps → IsOneOf steps s → IsDepots (outcome_of s.reply) → Tells log (outcome_of s.reply)
+pub step_tells : (log : List LogEntry) (steps : List Step) (s : Step) → GoesOn [] log steps → IsOneOf steps s → IsDepots (outcome_of s.reply) → Tells log (outcome_of s.reply)
 step_tells log steps s g i b =
     let m = in_map g.own s (subst (λ (l : List Step). IsOneOf l s) (sym g.steps_of) (in_logged steps s i b)) in
     (m.0, subst (λ (l : List LogEntry). IsOneOf l m.0) (sym g.after) m.1, ap (λ (q : Step). outcome_of q.reply) (sym m.2))
 
-tells_step : (log : List LogEntry) (steps : List Step) (o : Outcome) → GoesOn [] log steps → Tells log o → (s : Step) × IsOneOf steps s × (outcome_of s.reply ≡ o)
+pub tells_step : (log : List LogEntry) (steps : List Step) (o : Outcome) → GoesOn [] log steps → Tells log o → (s : Step) × IsOneOf steps s × (outcome_of s.reply ≡ o)
 tells_step log steps o g t =
     (step_of t.0, from_logged steps (step_of t.0) (subst (λ (l : List Step). IsOneOf l (step_of t.0)) g.steps_of (to_map g.own t.0 (subst (λ (l : List LogEntry). IsOneOf l t.0) g.after t.1))), t.2)
 
@@ -79,7 +76,7 @@ module _ {E : Type 0} (out : E → Outcome) where
   abbrev pub Sticks : Walks Step E → Type 0
   Sticks W = (steps : List Step) (end : E) → W steps end → (s : Step) → IsOneOf steps s → IsDepots (outcome_of s.reply) → out end ≡ outcome_of s.reply
 
-  finds_asks : (call : Call) (after : Reply → Walks Step E)
+  pub finds_asks : (call : Call) (after : Reply → Walks Step E)
       → ((r : Reply) (tail : List Step) (end : E) → Answers call r → after r tail end → IsDepots (out end) → (outcome_of r ≡ out end) ⊎ FindsIn tail (out end)) → Finds (Asks call after)
   finds_asks call after each steps end w b = by (each w.0 w.2 end w.4.1 w.5 b)
     where
@@ -87,7 +84,7 @@ module _ {E : Type 0} (out : E → Outcome) where
       by (inl e) = (w.1, subst (λ (l : List Step). IsOneOf l w.1) (sym w.3) (inl refl), ap (λ (q : Step). outcome_of q.reply) w.4.0 ∙ e)
       by (inr f) = (f.0, subst (λ (l : List Step). IsOneOf l f.0) (sym w.3) (inr f.1), f.2)
 
-  sticks_asks : (call : Call) (after : Reply → Walks Step E)
+  pub sticks_asks : (call : Call) (after : Reply → Walks Step E)
       → ((r : Reply) (tail : List Step) (end : E) → Answers call r → after r tail end → IsDepots (outcome_of r) → out end ≡ outcome_of r)
       → ((r : Reply) (tail : List Step) (end : E) → Answers call r → after r tail end → (s : Step) → IsOneOf tail s → IsDepots (outcome_of s.reply) → out end ≡ outcome_of s.reply)
       → Sticks (Asks call after)
@@ -99,7 +96,7 @@ module _ {E : Type 0} (out : E → Outcome) where
           one w.0 w.2 end w.4.1 w.5 (subst IsDepots same b) ∙ sym same
       by (inr j) = rest w.0 w.2 end w.4.1 w.5 s j b
 
-not_in : (tail : List Step) (s : Step) → tail ≡ [] → IsOneOf tail s → ⊥
+pub not_in : (tail : List Step) (s : Step) → tail ≡ [] → IsOneOf tail s → ⊥
 not_in tail s e i = subst (λ (l : List Step). IsOneOf l s) e i
 
 -- ---- collections
@@ -170,7 +167,7 @@ collects_sticks (job.Settle key) = one_sticks (call_of (job.Settle key))
 left_end : (session : ℕ) (end0 end : moves.Ending) (steps : List Step) → moves.Leaves session end0 steps end → end ≡ end0
 left_end session end0 end steps w = w.5.1
 
-abandon_not : (session : ℕ) (r : Reply) → Answers (abandons session) r → IsDepots (outcome_of r) → ⊥
+pub abandon_not : (session : ℕ) (r : Reply) → Answers (abandons session) r → IsDepots (outcome_of r) → ⊥
 abandon_not session no_session a b = b
 abandon_not session abandoned a b = b
 abandon_not session memory a b = b
@@ -272,42 +269,30 @@ begin_rest (moving session from to fields) tail end w s i b = copies_sticks sess
 begin_rest memory tail end w s i b = absurd (not_in tail s w.0 i)
 begin_rest r tail end w s i b = absurd (not_in tail s w.0 i)
 
-moves_finds : (image : List ℕ) → Finds outcome_moved (moves.Migrates image)
+pub moves_finds : (image : List ℕ) → Finds outcome_moved (moves.Migrates image)
 moves_finds image = finds_asks outcome_moved (begins_move image) moves.after_begin (λ r tail end a w b. begin_finds r tail end w b)
 
-moves_sticks : (image : List ℕ) → Sticks outcome_moved (moves.Migrates image)
+pub moves_sticks : (image : List ℕ) → Sticks outcome_moved (moves.Migrates image)
 moves_sticks image = sticks_asks outcome_moved (begins_move image) moves.after_begin (λ r tail end a w b. begin_one r tail end w b) (λ r tail end a w s i b. begin_rest r tail end w s i b)
 
 -- ---- commands
 
-collected_tells : (j : CollectJob) (log : List LogEntry) (o : Outcome) (text : List ℕ) → Collected j log o text → IsDepots o → Tells log o
+pub collected_tells : (j : CollectJob) (log : List LogEntry) (o : Outcome) (text : List ℕ) → Collected j log o text → IsDepots o → Tells log o
 collected_tells j log o text w b =
     let f = collects_finds j w.1.steps w.0 w.1.walk (subst IsDepots w.2 b) in
     subst (Tells log) (f.2 ∙ sym w.2) (step_tells log w.1.steps f.0 w.1.goes_on f.1 (subst IsDepots (sym f.2) (subst IsDepots w.2 b)))
 
-collected_is : (j : CollectJob) (log : List LogEntry) (o : Outcome) (text : List ℕ) → Collected j log o text → (e : Outcome) → IsDepots e → Tells log e → o ≡ e
+pub collected_is : (j : CollectJob) (log : List LogEntry) (o : Outcome) (text : List ℕ) → Collected j log o text → (e : Outcome) → IsDepots e → Tells log e → o ≡ e
 collected_is j log o text w e b t =
     let s = tells_step log w.1.steps e w.1.goes_on t in
     w.2 ∙ (collects_sticks j w.1.steps w.0 w.1.walk s.0 s.1 (subst IsDepots (sym s.2) b) ∙ s.2)
 
-pub walked_tells : (c : Command) (v : View) (log : List LogEntry) (o : Outcome) (text : List ℕ) → HasWalked c v log o text → IsDepots o → Tells log o
-walked_tells (command.Rotate bytes) v log o text w b = collected_tells (job.Rotate bytes) log o text w b
-walked_tells (command.Migrate image) v log o text w b =
+pub moved_tells : (image : List ℕ) (log : List LogEntry) (o : Outcome) (text : List ℕ) → Moved image log o text → IsDepots o → Tells log o
+moved_tells image log o text w b =
     let f = moves_finds image w.1.steps w.0 w.1.walk (subst IsDepots w.2 b) in
     subst (Tells log) (f.2 ∙ sym w.2) (step_tells log w.1.steps f.0 w.1.goes_on f.1 (subst IsDepots (sym f.2) (subst IsDepots w.2 b)))
-walked_tells (command.Withdraw image) v log o text w b = collected_tells (job.Withdraw image) log o text w b
-walked_tells (command.Expire root) v log o text w b = collected_tells (job.Expire root) log o text w b
-walked_tells (command.Delete root) v log o text w b = collected_tells (job.Delete root) log o text w b
-walked_tells (command.Sweep root) v log o text w b = collected_tells (job.Sweep root) log o text w b
-walked_tells command.Roots v log o text w b = elim w.1 [ inl made ↦ absurd (subst IsDepots made.0 b) | inr none ↦ absurd (subst IsDepots none b) ]
 
-pub walked_is : (c : Command) (v : View) (log : List LogEntry) (o : Outcome) (text : List ℕ) → HasWalked c v log o text → (e : Outcome) → IsDepots e → Tells log e → o ≡ e
-walked_is (command.Rotate bytes) v log o text w e b t = collected_is (job.Rotate bytes) log o text w e b t
-walked_is (command.Migrate image) v log o text w e b t =
+pub moved_is : (image : List ℕ) (log : List LogEntry) (o : Outcome) (text : List ℕ) → Moved image log o text → (e : Outcome) → IsDepots e → Tells log e → o ≡ e
+moved_is image log o text w e b t =
     let s = tells_step log w.1.steps e w.1.goes_on t in
     w.2 ∙ (moves_sticks image w.1.steps w.0 w.1.walk s.0 s.1 (subst IsDepots (sym s.2) b) ∙ s.2)
-walked_is (command.Withdraw image) v log o text w e b t = collected_is (job.Withdraw image) log o text w e b t
-walked_is (command.Expire root) v log o text w e b t = collected_is (job.Expire root) log o text w e b t
-walked_is (command.Delete root) v log o text w e b t = collected_is (job.Delete root) log o text w e b t
-walked_is (command.Sweep root) v log o text w e b t = collected_is (job.Sweep root) log o text w e b t
-walked_is command.Roots v log o text w e b t = absurd (subst (λ (l : List LogEntry). IsOneOf l t.0) w.0 t.1)

@@ -1,5 +1,5 @@
 -- What a command met, and what each way to end comes from.
-use Rattle.std.specs.Prelude.{◌≡◌, ◌⊎◌, ◌^◌, ℕ, List, [], Option, Some, ⊤}
+use Rattle.std.specs.Prelude.{◌≡◌, ◌⊎◌, ◌≤◌, ◌^◌, ℕ, List, [], length, Option, Some, ⊤}
 use Rattle.lr_spec.specs.Rose.{Rose}
 use Rattle.lr_spec.specs.Told.{Told}
 use Rattle.lr_origin.specs.Objects.{Objects}
@@ -13,28 +13,43 @@ use Rattle.lr_roots.specs.Catalog.{Seen as Catalog}
 use Rattle.lr_depot.specs.Machine.{LogEntry}
 use Rattle.lr_depot.specs.Left.{Left}
 use Rattle.lr_depot.specs.Depot.{Seen, IsStarted, IsEnded}
-use Rattle.lr_walk.specs.Depot.{seen_told}
+use Rattle.lr_walk.specs.Depot.{seen_told, opened}
+use Rattle.lr_manifest.specs.Manifest.{ManifestFields}
+use Rattle.lr_seal.specs.Table.{HasTag}
+use Rattle.lr_desk.specs.declared.outcome.Refusal.{Refusal}
+use Rattle.lr_desk.specs.declared.outcome.Refusal.TheVariants as refusal
 use Rattle.lr_desk.specs.declared.outcome.Outcome.{Outcome}
 use Rattle.lr_desk.specs.declared.outcome.Outcome.TheVariants.{Done, Usage, ReadFault, WriteFault, OriginFault, Memory, Refused, Foreign, Spoiled, TooMany}
 use Rattle.lr_desk.specs.declared.words.Command.{Command}
-use Rattle.lr_desk.specs.Words.{AreWords, IsCommand, words_of}
+use Rattle.lr_desk.specs.declared.words.Command.TheVariants as command
+use Rattle.lr_desk.specs.Words.{AreWords, AreOfCreation, IsCommand, words_of}
 use Rattle.lr_desk.specs.Outcome.{status_of, line_of}
-use Rattle.lr_desk.specs.Ends.{outcome_of, HasRun}
+use Rattle.lr_desk.specs.Ends.{outcome_of, setting, HasRun}
 
--- What a command met: its words, the objects that the store told, the counts of faults before and after, and the depot's log.
+-- What a command met: its words, the objects that the store told, the bytes that the source told, the counts of faults before and after,
+-- and the depot's log.
 pub record Met : Type 0 where
   pub words : List (List ℕ)
   pub objects : Option Objects
+  pub source : Option (List ℕ)
   pub origin_before : ℕ
   pub origin_after : ℕ
+  pub source_before : ℕ
+  pub source_after : ℕ
   pub sink_before : ℕ
   pub sink_after : ℕ
   pub log : List LogEntry
 
+-- a refusal by the depot: neither for a wrong key nor for too many bytes
+abbrev pub IsByDepot : Refusal → Type 0
+IsByDepot refusal.Sealed = ⊥
+IsByDepot refusal.TooLong = ⊥
+IsByDepot r = ⊤
+
 -- an outcome that the depot's reply alone decides: a refusal, a spoiled key or a fault of the store
 abbrev pub IsDepots : Outcome → Type 0
 IsDepots OriginFault = ⊤
-IsDepots (Refused r) = ⊤
+IsDepots (Refused r) = IsByDepot r
 IsDepots (Spoiled key) = ⊤
 IsDepots o = ⊥
 
@@ -42,15 +57,37 @@ IsDepots o = ⊥
 abbrev pub Tells : List LogEntry → Outcome → Type 0
 Tells log o = (e : LogEntry) × IsOneOf log e × (outcome_of (seen_told e.reply) ≡ o)
 
+-- The words are of a reading, and the manifest of the image that was opened has a tag that isn't that of the tenant's key.
+pub record IsSealed (words : List (List ℕ)) (log : List LogEntry) : Type 0 where
+  pub image : List ℕ
+  pub tenant : List ℕ
+  pub worded : words ≡ words_of (command.Cat image tenant)
+  pub entry : LogEntry
+  pub among : IsOneOf log entry
+  pub lease : ℕ
+  pub manifest : ManifestFields
+  pub opening : seen_told entry.reply ≡ opened lease manifest
+  pub wrong : HasTag manifest tenant → ⊥
+
+-- The words are of a creation, and the source had more bytes than an image may have.
+abbrev pub IsTooLong : List (List ℕ) → Option (List ℕ) → Type 0
+IsTooLong words source = AreOfCreation words × Told source (λ bytes. 67108865 ≤ length bytes)
+
+-- Where each refusal comes.
+abbrev pub Refuses : Met → Refusal → Type 0
+Refuses m refusal.Sealed = IsSealed m.words m.log
+Refuses m refusal.TooLong = IsTooLong m.words m.source
+Refuses m r = Tells m.log (Refused r)
+
 -- Where each outcome comes.
 abbrev pub Comes : Met → Outcome → Type 0
 Comes m Done = AreWords m.words
 Comes m Usage = ¬ (AreWords m.words)
-Comes m ReadFault = ⊥
+Comes m ReadFault = Rose m.source_before m.source_after
 Comes m WriteFault = Rose m.sink_before m.sink_after
 Comes m OriginFault = Rose m.origin_before m.origin_after
 Comes m Memory = ⊤
-Comes m (Refused r) = Tells m.log (Refused r)
+Comes m (Refused r) = Refuses m r
 Comes m (Foreign key) = Told m.objects (λ os. IsForeignKey os key.items × HasFewer os (2 ^ 32))
 Comes m (Spoiled key) = Tells m.log (Spoiled key) ⊎ (IsRead key × Told m.objects (λ os. ⊥))
 Comes m TooMany = Told m.objects (λ os. HasMany os (2 ^ 32))
@@ -95,7 +132,7 @@ IsComplete o = ⊥
 -- With good words, a sound store of fewer than 2^32 keys and no count that rose, nothing else comes.
 abbrev pub Completes : Met → Outcome → Type 0
 Completes m o =
-    AreWords m.words → ¬ (Rose m.origin_before m.origin_after) → ¬ (Rose m.sink_before m.sink_after)
+    AreWords m.words → ¬ (Rose m.origin_before m.origin_after) → ¬ (Rose m.source_before m.source_after) → ¬ (Rose m.sink_before m.sink_after)
     → Told m.objects (λ os. IsSoundStore os → HasFewer os (2 ^ 32) → IsComplete o)
 
 -- The answer to what was met: an outcome with its status and line, its cause, and where it must come.
@@ -109,7 +146,7 @@ pub record IsAnswered (m : Met) (status : ℕ) (line : List ℕ) : Type 0 where
 
 -- A command that ran: the depot started over the store and ended with what is handed back; its log is the command's walk, and what
 -- was written is the command's text or a front of it.
-pub record HasCommanded {O : Type 0} (objects : O → Option Objects) (faults : O → ℕ) (words : List (List ℕ)) (before : O) (written : Option (List ℕ)) (after : O) (written_after : Option (List ℕ)) (left : Left) (status : ℕ) : Type 0 where
+pub record HasCommanded {O : Type 0} (objects : O → Option Objects) (faults : O → ℕ) (words : List (List ℕ)) (before : O) (source source_left : Option (List ℕ)) (written : Option (List ℕ)) (after : O) (written_after : Option (List ℕ)) (left : Left) (status : ℕ) : Type 0 where
   pub first : Seen O
   pub last : Seen O
   pub catalog : Catalog
@@ -121,4 +158,4 @@ pub record HasCommanded {O : Type 0} (objects : O → Option Objects) (faults : 
   pub worded : words ≡ words_of command
   pub outcome : Outcome
   pub gave : status ≡ status_of outcome
-  pub ran : HasRun command first.start.view left.log written written_after outcome
+  pub ran : HasRun command (setting objects first source source_left) left.log written written_after outcome

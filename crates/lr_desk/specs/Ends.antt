@@ -1,11 +1,19 @@
 -- How a walk ends a command: the outcome of each reply, and the text that is written.
-use Rattle.std.specs.Prelude.{◌≡◌, ◌⊎◌, ℕ, List, [], ◌++◌, codes, decimal, Result, Ok, Err, Vec, Option, ⊤}
+use Rattle.std.specs.Prelude.{◌≡◌, ◌⊎◌, ℕ, List, [], ◌∷◌, ◌++◌, map, codes, decimal, Result, Ok, Err, Vec, Option, ⊤}
 use Rattle.std.specs.declared.alloc.Global.{Global}
 use Rattle.lr_io.specs.Streams.{Appends, AppendsFront}
-use Rattle.lr_roots.specs.View.{View}
+use Rattle.lr_origin.specs.Objects.{Objects}
+use Rattle.lr_depot.specs.Begun.{Start}
 use Rattle.lr_depot.specs.Machine.{LogEntry}
+use Rattle.lr_depot.specs.Depot.{Seen}
 use Rattle.lr_walk.specs.Depot as depots
-use Rattle.lr_walk.specs.Depot.{Reply}
+use Rattle.lr_walk.specs.Depot.{Step, Reply, seen_reply}
+use Rattle.lr_creator.specs.Creation.{Ending as Creating, piece, last, Creates}
+use Rattle.lr_images.specs.declared.created.Created.{Created}
+use Rattle.lr_images.specs.declared.created.Created.TheVariants as by
+use Rattle.lr_images.specs.Drive.{GoesOn, joined}
+use Rattle.lr_images.specs.Created.{IsAnswer, HasRead}
+use Rattle.lr_images.specs.Cat as cat
 use Rattle.lr_collector.specs.declared.collect.CollectJob.{CollectJob}
 use Rattle.lr_collector.specs.declared.collect.CollectJob.TheVariants as job
 use Rattle.lr_collector.specs.Collection.{Ending, with_reply, with_count, with_memory}
@@ -79,16 +87,84 @@ text_moved moves.with_memory = []
 abbrev pub Moved : List ℕ → List LogEntry → Outcome → List ℕ → Type 0
 Moved image log o text = (end : moves.Ending) × HasMoved [] image log end × (o ≡ outcome_moved end) × (text ≡ text_moved end)
 
--- The log is the command's walk, which has this outcome and this text. The view is that of the start: `roots` makes no call, and
--- finds memory for the view's text or doesn't.
-abbrev pub HasWalked : Command → View → List LogEntry → Outcome → List ℕ → Type 0
-HasWalked (command.Rotate bytes) v log o text = Collected (job.Rotate bytes) log o text
-HasWalked (command.Migrate image) v log o text = Moved image log o text
-HasWalked (command.Withdraw image) v log o text = Collected (job.Withdraw image) log o text
-HasWalked (command.Expire root) v log o text = Collected (job.Expire root) log o text
-HasWalked (command.Delete root) v log o text = Collected (job.Delete root) log o text
-HasWalked (command.Sweep root) v log o text = Collected (job.Sweep root) log o text
-HasWalked command.Roots v log o text = (log ≡ []) × (((o ≡ Done) × IsViewText v text) ⊎ (o ≡ Memory))
+-- ---- images
+
+-- What a command is done over: what its depot was started with, the objects that the depot's store told then, and the bytes that the
+-- source had left before and after.
+pub record Setting : Type 0 where
+  pub start : Start
+  pub objects : Option Objects
+  pub source : Option (List ℕ)
+  pub left : Option (List ℕ)
+
+abbrev pub setting : {O : Type 0} → (O → Option Objects) → Seen O → Option (List ℕ) → Option (List ℕ) → Setting
+setting objects d source left = record { start = d.start; objects = objects d.origin; source = source; left = left }
+
+-- how a command ends that wasn't done
+abbrev pub failure : Outcome → Outcome
+failure Done = Memory
+failure o = o
+
+-- .. of a creation
+abbrev pub outcome_made : Created → Outcome
+outcome_made (by.Root root) = Done
+outcome_made (by.Refused reply) = failure (outcome_of (seen_reply reply))
+outcome_made by.ReadFault = ReadFault
+outcome_made by.TooLong = Refused refusal.TooLong
+outcome_made by.OutOfMemory = Memory
+
+abbrev pub text_made : Created → List ℕ
+text_made (by.Root root) = codes "created " ++ (decimal root ++ codes "\n")
+text_made created = []
+
+-- The log is the walk of a creation of what was read of the source, which has this outcome and this text.
+pub record Made (image tenant : List ℕ) (s : Setting) (log : List LogEntry) (o : Outcome) (text : List ℕ) : Type 0 where
+  pub created : Created
+  pub pieces : List (List ℕ)
+  pub taken : HasRead created s.source (joined pieces) s.left
+  pub steps : List Step
+  pub end : Creating
+  pub walk : Creates image tenant (map piece pieces ++ last ∷ []) steps end
+  pub answer : IsAnswer created end
+  pub goes_on : GoesOn [] log steps
+  pub ends : o ≡ outcome_made created
+  pub writes : text ≡ text_made created
+
+-- .. and of a reading
+abbrev pub outcome_read : cat.Ending → Outcome
+outcome_read cat.with_bytes = Done
+outcome_read (cat.with_reply reply) = failure (outcome_of reply)
+outcome_read cat.with_wrong_key = Refused refusal.Sealed
+outcome_read cat.with_memory = Memory
+
+-- the bytes that a reading gives: what the image's manifest denotes, cut to the raw length
+abbrev pub IsReadText : cat.Ending → Setting → List ℕ → List ℕ → List Step → List ℕ → Type 0
+IsReadText cat.with_bytes s image tenant steps text = cat.IsRead (λ (told : Option Objects). told) (record { origin = s.objects; start = s.start; log = [] }) image tenant steps text
+IsReadText end s image tenant steps text = text ≡ []
+
+-- The log is the walk of the reading of an image, which has this outcome and this text.
+pub record WasRead (image tenant : List ℕ) (s : Setting) (log : List LogEntry) (o : Outcome) (text : List ℕ) : Type 0 where
+  pub steps : List Step
+  pub end : cat.Ending
+  pub walk : cat.Cats image tenant steps end
+  pub goes_on : GoesOn [] log steps
+  pub ends : o ≡ outcome_read end
+  pub writes : IsReadText end s image tenant steps text
+
+-- ---- commands
+
+-- The log is the command's walk, which has this outcome and this text. `roots` makes no call, and finds memory for the text of the
+-- view at the start or doesn't.
+abbrev pub HasWalked : Command → Setting → List LogEntry → Outcome → List ℕ → Type 0
+HasWalked (command.Create image tenant) s log o text = Made image tenant s log o text
+HasWalked (command.Cat image tenant) s log o text = WasRead image tenant s log o text
+HasWalked (command.Rotate bytes) s log o text = Collected (job.Rotate bytes) log o text
+HasWalked (command.Migrate image) s log o text = Moved image log o text
+HasWalked (command.Withdraw image) s log o text = Collected (job.Withdraw image) log o text
+HasWalked (command.Expire root) s log o text = Collected (job.Expire root) log o text
+HasWalked (command.Delete root) s log o text = Collected (job.Delete root) log o text
+HasWalked (command.Sweep root) s log o text = Collected (job.Sweep root) log o text
+HasWalked command.Roots s log o text = (log ≡ []) × (((o ≡ Done) × IsViewText s.start.view text) ⊎ (o ≡ Memory))
 
 -- Another outcome than the walk's: only want of memory, where the walk did the command.
 abbrev pub IsOther : Outcome → Outcome → Type 0
@@ -113,12 +189,13 @@ IsFinish Done text before after e = IsWritten before text after e
 IsFinish o text before after e = (e ≡ o) × (after ≡ before)
 
 -- A command that ran over a depot: its log is the walk, and it ended so.
-abbrev pub HasRun : Command → View → List LogEntry → Option (List ℕ) → Option (List ℕ) → Outcome → Type 0
-HasRun c v log before after e = (o : Outcome) × (text : List ℕ) × HasWalked c v log o text × IsFinish o text before after e
+abbrev pub HasRun : Command → Setting → List LogEntry → Option (List ℕ) → Option (List ℕ) → Outcome → Type 0
+HasRun c s log before after e = (o : Outcome) × (text : List ℕ) × HasWalked c s log o text × IsFinish o text before after e
 
 -- an outcome that a walk may have
 abbrev pub IsWalkOutcome : Outcome → Type 0
 IsWalkOutcome Done = ⊤
+IsWalkOutcome ReadFault = ⊤
 IsWalkOutcome OriginFault = ⊤
 IsWalkOutcome Memory = ⊤
 IsWalkOutcome (Refused r) = ⊤

@@ -4,11 +4,13 @@ ghost use Rattle.lr_walk.specs.Depot.{seen_reply};
 ghost use Rattle.lr_collector.specs.Seen.{seen_end as seen_collection};
 ghost use Rattle.lr_migrator.specs.Seen.{seen_end as seen_migration};
 ghost use Rattle.lr_desk.specs.declared.outcome.Outcome.TheVariants as outcome;
-ghost use Rattle.lr_desk.specs.Ends.{outcome_of, text_of, outcome_at, text_at, outcome_moved, text_moved, Yields};
+ghost use Rattle.lr_images.specs.Cat.{error_end};
+ghost use Rattle.lr_desk.specs.Ends.{outcome_of, text_of, outcome_at, text_at, outcome_moved, text_moved, failure, outcome_made, text_made, outcome_read, Yields};
 
 use crate::outcome::{Outcome, Refusal};
 use lr_collector::CollectEnd;
 use lr_depot::DepotReply;
+use lr_images::{CatError, Created};
 use lr_migrator::MigrateEnd;
 use lr_spec::OutOfMemory;
 use lr_text::put_number;
@@ -115,5 +117,39 @@ pub(crate) fn of_migration(alloc: Global, end: MigrateEnd) -> Result<Vec<u8>, Ou
         MigrateEnd::Moved { from, to } => moved(alloc, from, to),
         MigrateEnd::Other(reply) => of_reply(alloc, &reply),
         MigrateEnd::Memory => Err(Outcome::Memory),
+    }
+}
+
+// How a reply ends a command that it didn't do.
+fn of_refusal(alloc: Global, reply: &DepotReply) -> Outcome
+    ensures { result ≡ failure (outcome_of (seen_reply reply.now)) }
+{
+    match of_reply(alloc, reply) {
+        Ok(_) => Outcome::Memory,
+        Err(outcome) => outcome,
+    }
+}
+
+/// What the answer of a creation makes of a command.
+pub(crate) fn of_creation(alloc: Global, created: Created) -> Result<Vec<u8>, Outcome>
+    ensures { Yields (outcome_made created) (text_made created) result }
+{
+    match created {
+        Created::Root(root) => numbered(alloc, b"created ", u64::from(root)),
+        Created::Refused(reply) => Err(of_refusal(alloc, &reply)),
+        Created::ReadFault => Err(Outcome::ReadFault),
+        Created::TooLong => Err(Outcome::Refused(Refusal::TooLong)),
+        Created::OutOfMemory => Err(Outcome::Memory),
+    }
+}
+
+/// How a command ends whose image wasn't read.
+pub(crate) fn of_error(alloc: Global, error: CatError) -> Outcome
+    ensures { result ≡ outcome_read (error_end error) }
+{
+    match error {
+        CatError::Refused(reply) => of_refusal(alloc, &reply),
+        CatError::Sealed => Outcome::Refused(Refusal::Sealed),
+        CatError::OutOfMemory => Outcome::Memory,
     }
 }

@@ -13,7 +13,7 @@ mod tests;
 mod words;
 
 pub use collecting::collect;
-pub use laws::logs_tell_of_outcomes;
+pub use laws::{done_images, logs_tell_of_outcomes};
 pub use moving::migrate;
 pub use outcome::{Outcome, Refusal};
 pub use roots::view_text;

@@ -10,6 +10,10 @@ use lr_text::{is, key_of, number_between};
 /// A command over a store.
 #[derive(Clone, Copy)]
 pub enum Command {
+    /// `create IMAGE TENANT`: an image is made of the source's bytes, sealed under a tenant's key.
+    Create { image: ImageName, tenant: [u8; 32] },
+    /// `cat IMAGE TENANT`: the bytes of an image are read back.
+    Cat { image: ImageName, tenant: [u8; 32] },
     /// `rotate SALT`: the next root begins.
     Rotate { salt: [u8; 32] },
     /// `migrate IMAGE`: an image is copied to the active root.
@@ -76,6 +80,22 @@ fn with_argument(name: &[u8], argument: &[u8]) -> Option<Command>
     None
 }
 
+// The command of three words.
+fn with_arguments(name: &[u8], first: &[u8], second: &[u8]) -> Option<Command>
+    ensures found { IfSome result (λ c. IsCommand c × (words_of c ≡ name.now ∷ first.now ∷ second.now ∷ [])) }
+    ensures only { IfNone result ((c : AnyCommand) → IsCommand c → words_of c ≢ name.now ∷ first.now ∷ second.now ∷ []) }
+{
+    let image = ImageName::parse(first)?;
+    let tenant = key_of(second)?;
+    if is(name, b"create") {
+        return Some(Command::Create { image, tenant });
+    }
+    if is(name, b"cat") {
+        return Some(Command::Cat { image, tenant });
+    }
+    None
+}
+
 /// The command that these words are, or `None` where they are no command's.
 pub fn command_of(words: &[String]) -> Option<Command>
     ensures found { IfSome result (λ c. IsCommand c × (map string_bytes words.now ≡ words_of c)) }
@@ -84,6 +104,9 @@ pub fn command_of(words: &[String]) -> Option<Command>
     match words {
         [name] => alone(name.as_bytes()),
         [name, argument] => with_argument(name.as_bytes(), argument.as_bytes()),
+        [name, first, second] => {
+            with_arguments(name.as_bytes(), first.as_bytes(), second.as_bytes())
+        }
         _ => None,
     }
 }

@@ -23,17 +23,17 @@ never_three (Foreign k) e = absurd (omega (arith, e))
 never_three (Spoiled k) e = absurd (omega (arith, e))
 never_three TooMany e = absurd (omega (arith, e))
 
-never_four : (m : Met) (o : Outcome) → Comes m o → status_of o ≡ 4 → ⊥
-never_four m Done c e = absurd (omega (arith, e))
-never_four m Usage c e = absurd (omega (arith, e))
-never_four m ReadFault c e = c
-never_four m WriteFault c e = absurd (omega (arith, e))
-never_four m OriginFault c e = absurd (omega (arith, e))
-never_four m Memory c e = absurd (omega (arith, e))
-never_four m (Refused r) c e = absurd (omega (arith, e))
-never_four m (Foreign k) c e = absurd (omega (arith, e))
-never_four m (Spoiled k) c e = absurd (omega (arith, e))
-never_four m TooMany c e = absurd (omega (arith, e))
+at_four : (m : Met) (o : Outcome) → Comes m o → status_of o ≡ 4 → Rose m.source_before m.source_after
+at_four m Done c e = absurd (omega (arith, e))
+at_four m Usage c e = absurd (omega (arith, e))
+at_four m ReadFault c e = c
+at_four m WriteFault c e = absurd (omega (arith, e))
+at_four m OriginFault c e = absurd (omega (arith, e))
+at_four m Memory c e = absurd (omega (arith, e))
+at_four m (Refused r) c e = absurd (omega (arith, e))
+at_four m (Foreign k) c e = absurd (omega (arith, e))
+at_four m (Spoiled k) c e = absurd (omega (arith, e))
+at_four m TooMany c e = absurd (omega (arith, e))
 
 at_five : (m : Met) (o : Outcome) → Comes m o → status_of o ≡ 5 → Rose m.sink_before m.sink_after
 at_five m Done c e = absurd (omega (arith, e))
@@ -50,8 +50,8 @@ at_five m TooMany c e = absurd (omega (arith, e))
 pub not_three : (m : Met) (status : ℕ) (line : List ℕ) → IsAnswered m status line → status ≡ 3 → ⊥
 not_three m status line a e = never_three a.outcome (sym a.gave ∙ e)
 
-pub not_four : (m : Met) (status : ℕ) (line : List ℕ) → IsAnswered m status line → status ≡ 4 → ⊥
-not_four m status line a e = never_four m a.outcome a.comes (sym a.gave ∙ e)
+pub rose_at_four : (m : Met) (status : ℕ) (line : List ℕ) → IsAnswered m status line → status ≡ 4 → Rose m.source_before m.source_after
+rose_at_four m status line a e = at_four m a.outcome a.comes (sym a.gave ∙ e)
 
 pub rose_at_five : (m : Met) (status : ℕ) (line : List ℕ) → IsAnswered m status line → status ≡ 5 → Rose m.sink_before m.sink_after
 rose_at_five m status line a e = at_five m a.outcome a.comes (sym a.gave ∙ e)

@@ -3,6 +3,7 @@ ghost use Rattle.lr_spec.specs.Rose.{Rose};
 ghost use Rattle.lr_spec.specs.Told.{Told};
 ghost use Rattle.lr_io.specs.Streams.{Appends, AppendsFront};
 ghost use Rattle.lr_single.specs.Grammar.{FirstOutside};
+ghost use Rattle.lr_desk.specs.Words.{AreOfCreation};
 ghost use Rattle.lr_desk.specs.Causes.{IsAnswered, HasCommanded};
 ghost use Rattle.lr_top.specs.Served.{HasServed};
 ghost use Rattle.lr_top.specs.Top.{IsReadAs, IsOutsideAt, report_of, MatchRun, IfCommand, log_of, refusal, IsStatus};
@@ -48,10 +49,11 @@ pub fn desk<O: Origin, I: Source, W: Sink>(
     sink: &mut W,
     origin: O,
 ) -> Outcome<O>
-    ensures answered { IsAnswered (record { words = map string_bytes words.now; objects = O.objects origin; origin_before = O.faults origin; origin_after = O.faults result.origin; sink_before = W.faults sink.old; sink_after = W.faults sink.new; log = log_of result.run }) result.status result.line }
-    ensures commanded { IfCommand result.run (λ left. HasCommanded O.objects O.faults (map string_bytes words.now) origin (W.written sink.old) result.origin (W.written sink.new) left result.status) }
+    ensures answered { IsAnswered (record { words = map string_bytes words.now; objects = O.objects origin; source = I.left source.old; origin_before = O.faults origin; origin_after = O.faults result.origin; source_before = I.faults source.old; source_after = I.faults source.new; sink_before = W.faults sink.old; sink_after = W.faults sink.new; log = log_of result.run }) result.status result.line }
+    ensures commanded { IfCommand result.run (λ left. HasCommanded O.objects O.faults (map string_bytes words.now) origin (I.left source.old) (I.left source.new) (W.written sink.old) result.origin (W.written sink.new) left result.status) }
     ensures recorded { MatchRun result.run ((result.status ≢ 0) × (result.status ≢ 5) × (W.written sink.new ≡ W.written sink.old)) (λ _. ⊥) }
-    ensures unread { source.new ≡ source.old }
+    // Only `create` reads the source.
+    ensures unread { ¬ (AreOfCreation (map string_bytes words.now)) → source.new ≡ source.old }
 {
     let done = commands(alloc, words, source, sink, origin);
     let Done {
@@ -71,7 +73,7 @@ pub fn desk<O: Origin, I: Source, W: Sink>(
 }
 
 /// Does one command. The words choose it; `play` reads a script from the source, runs it, and writes its
-/// report to the sink. The other commands are done over the store.
+/// report to the sink. The other commands are done over the store; of these `create` alone reads the source.
 ///
 /// In the run that it hands back, the script is the reading of all that the source had, and the device's
 /// history is a legal one of a plain block device opened on the image's padded bytes, with one entry for
@@ -87,13 +89,14 @@ pub fn top<O: Origin, I: Source, W: Sink>(
     ensures known { map string_bytes words.now ≡ codes "play" ∷ [] → result.status ≢ 2 }
     ensures line { map string_bytes words.now ≡ codes "play" ∷ [] → IsStatus result.status result.line }
     ensures untouched { map string_bytes words.now ≡ codes "play" ∷ [] → result.origin ≡ origin }
-    ensures answered { map string_bytes words.now ≢ codes "play" ∷ [] → IsAnswered (record { words = map string_bytes words.now; objects = O.objects origin; origin_before = O.faults origin; origin_after = O.faults result.origin; sink_before = W.faults sink.old; sink_after = W.faults sink.new; log = log_of result.run }) result.status result.line }
-    ensures commanded { IfCommand result.run (λ left. HasCommanded O.objects O.faults (map string_bytes words.now) origin (W.written sink.old) result.origin (W.written sink.new) left result.status) }
+    ensures answered { map string_bytes words.now ≢ codes "play" ∷ [] → IsAnswered (record { words = map string_bytes words.now; objects = O.objects origin; source = I.left source.old; origin_before = O.faults origin; origin_after = O.faults result.origin; source_before = I.faults source.old; source_after = I.faults source.new; sink_before = W.faults sink.old; sink_after = W.faults sink.new; log = log_of result.run }) result.status result.line }
+    ensures commanded { IfCommand result.run (λ left. HasCommanded O.objects O.faults (map string_bytes words.now) origin (I.left source.old) (I.left source.new) (W.written sink.old) result.origin (W.written sink.new) left result.status) }
 
     // Status 3 names the first line outside the grammar. It comes exactly where there is one, if the reading comes to its end.
     ensures refused { result.status ≡ 3 → (n : ℕ) × (result.line ≡ refusal n) × IsOutsideAt (I.left source.old) n }
     ensures only { map string_bytes words.now ≡ codes "play" ∷ [] → Told (I.left source.old) (λ xs. (n : ℕ) → FirstOutside xs n → (result.status ≡ 3) ⊎ ((result.status ≡ 4) ⊎ (result.status ≡ 7))) }
 
+    ensures unread { map string_bytes words.now ≢ codes "play" ∷ [] → ¬ (AreOfCreation (map string_bytes words.now)) → source.new ≡ source.old }
     ensures read_fault { result.status ≡ 4 → Rose (I.faults source.old) (I.faults source.new) }
     ensures write_fault { result.status ≡ 5 → Rose (W.faults sink.old) (W.faults sink.new) }
 

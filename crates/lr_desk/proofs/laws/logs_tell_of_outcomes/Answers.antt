@@ -1,4 +1,4 @@
-use Rattle.lr_desk.proofs.Telling.{walked_tells, walked_is}
+use Rattle.lr_desk.proofs.Commanding.{walked_tells, walked_is}
 use Rattle.lr_desk.proofs.laws.logs_tell_of_outcomes.Goals as goal
 
 pub returns-clause-tells : goal.returns-clause-tells

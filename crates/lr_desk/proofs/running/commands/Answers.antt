@@ -9,8 +9,11 @@ returns-in_default-clause-answered g c =
     answered_usage (record {
       words = map (string_bytes {Z = Global}) c.args.words.now;
       objects = g.O.Origin.objects c.args.origin;
+      source = g.I.Source.left c.args.source.now;
       origin_before = g.O.Origin.faults c.args.origin;
       origin_after = g.O.Origin.faults c.unstarted.result.origin;
+      source_before = g.I.Source.faults c.args.source.now;
+      source_after = g.I.Source.faults c.args.source.now;
       sink_before = g.W.Sink.faults c.args.sink.now;
       sink_after = g.W.Sink.faults c.args.sink.now;
       log = c.unstarted.result.log.log;
@@ -21,8 +24,11 @@ returns-in-Err-clause-answered g c =
     answered_by_cause (record {
       words = map (string_bytes {Z = Global}) c.args.words.now;
       objects = g.O.Origin.objects c.args.origin;
+      source = g.I.Source.left c.args.source.now;
       origin_before = g.O.Origin.faults c.args.origin;
       origin_after = g.O.Origin.faults c.failed.result.origin;
+      source_before = g.I.Source.faults c.args.source.now;
+      source_after = g.I.Source.faults c.args.source.now;
       sink_before = g.W.Sink.faults c.args.sink.now;
       sink_after = g.W.Sink.faults c.args.sink.now;
       log = c.failed.result.log.log;
@@ -33,22 +39,27 @@ returns-in-Err-clause-answered g c =
 pub returns-clause-answered : goal.returns-clause-answered
 returns-clause-answered g c =
     answered_started g.O.Origin.objects g.O.Origin.faults c.args.origin c.end-origin.result.0 c.in-Ok.depot c.run-outcome.new.depot c.end-origin.result.1 c.end-origin.result.2
-    (map (string_bytes {Z = Global}) c.args.words.now) (g.W.Sink.faults c.args.sink.now) (g.W.Sink.faults c.run-outcome.new.sink) c.in-Some.command (g.W.Sink.written c.args.sink.now) (g.W.Sink.written c.run-outcome.new.sink)
+    (map (string_bytes {Z = Global}) c.args.words.now) (g.I.Source.faults c.args.source.now) (g.I.Source.faults c.run-outcome.new.source) (g.W.Sink.faults c.args.sink.now) (g.W.Sink.faults c.run-outcome.new.sink) c.in-Some.command
+    (g.I.Source.left c.args.source.now) (g.I.Source.left c.run-outcome.new.source) (g.W.Sink.written c.args.sink.now) (g.W.Sink.written c.run-outcome.new.sink)
     c.run-outcome.result c.status.result c.line.result c.in-Ok.ensures.started c.run-outcome.ensures.start c.end-origin.ensures.ended c.in-Some.ensures.found.0 c.in-Some.ensures.found.1 c.run-outcome.ensures.ran
-    c.run-outcome.ensures.write_fault c.status.ensures c.line.ensures
+    c.run-outcome.ensures.read_fault c.run-outcome.ensures.write_fault c.status.ensures c.line.ensures
 
 pub returns-clause-commanded : goal.returns-clause-commanded
 returns-clause-commanded g c = λ _.
     has_commanded g.O.Origin.objects g.O.Origin.faults c.args.origin c.end-origin.result.0 c.in-Ok.depot c.run-outcome.new.depot c.end-origin.result.1 c.end-origin.result.2
-    (map (string_bytes {Z = Global}) c.args.words.now) (g.W.Sink.faults c.args.sink.now) (g.W.Sink.faults c.run-outcome.new.sink) c.in-Some.command (g.W.Sink.written c.args.sink.now) (g.W.Sink.written c.run-outcome.new.sink)
+    (map (string_bytes {Z = Global}) c.args.words.now) (g.I.Source.faults c.args.source.now) (g.I.Source.faults c.run-outcome.new.source) (g.W.Sink.faults c.args.sink.now) (g.W.Sink.faults c.run-outcome.new.sink) c.in-Some.command
+    (g.I.Source.left c.args.source.now) (g.I.Source.left c.run-outcome.new.source) (g.W.Sink.written c.args.sink.now) (g.W.Sink.written c.run-outcome.new.sink)
     c.run-outcome.result c.status.result c.line.result c.in-Ok.ensures.started c.run-outcome.ensures.start c.end-origin.ensures.ended c.in-Some.ensures.found.0 c.in-Some.ensures.found.1 c.run-outcome.ensures.ran
     c.status.ensures
 
 pub returns-in_default-clause-unstarted : goal.returns-in_default-clause-unstarted
 returns-in_default-clause-unstarted g c = λ _.
-    (c.unstarted.ensures.log, ap g.O.Origin.objects c.unstarted.ensures.origin, refl, λ e. absurd (omega (arith, e, c.unstarted.ensures.status)), λ e. absurd (omega (arith, e, c.unstarted.ensures.status)))
+    (c.unstarted.ensures.log, ap g.O.Origin.objects c.unstarted.ensures.origin, refl, refl, λ e. absurd (omega (arith, e, c.unstarted.ensures.status)), λ e. absurd (omega (arith, e, c.unstarted.ensures.status)))
 
 pub returns-in-Err-clause-unstarted : goal.returns-in-Err-clause-unstarted
 returns-in-Err-clause-unstarted g c = λ _.
     let status = cause_status c.in-Err.error.cause in
-    (c.failed.ensures.log, ap g.O.Origin.objects c.failed.ensures.origin ∙ c.in-Err.ensures.back.0, refl, λ e. status.0 (sym c.failed.ensures.status ∙ e), λ e. status.1 (sym c.failed.ensures.status ∙ e))
+    (c.failed.ensures.log, ap g.O.Origin.objects c.failed.ensures.origin ∙ c.in-Err.ensures.back.0, refl, refl, λ e. status.0 (sym c.failed.ensures.status ∙ e), λ e. status.1 (sym c.failed.ensures.status ∙ e))
+
+pub returns-clause-unread : goal.returns-clause-unread
+returns-clause-unread g c = λ other. c.run-outcome.ensures.unread (λ are. other (are.0, are.1, c.in-Some.ensures.found.1 ∙ are.2))

@@ -1,5 +1,5 @@
 use Rattle.std.proofs.Common.{Global, map, ap, sym, subst}
-use Rattle.lr_top.proofs.Desking.{not_three, not_four, rose_at_five, no_run, no_command}
+use Rattle.lr_top.proofs.Desking.{not_three, rose_at_four, rose_at_five, no_run, no_command}
 use Rattle.lr_top.proofs.choose.top.Goals as goal
 
 pub returns-then-is_play-clause-commanded : goal.returns-then-is_play-clause-commanded
@@ -9,7 +9,7 @@ pub returns-clause-refused : goal.returns-clause-refused
 returns-clause-refused g c = λ e. absurd (not_three _ c.desk.result.status c.desk.result.line c.desk.ensures.answered e)
 
 pub returns-clause-read_fault : goal.returns-clause-read_fault
-returns-clause-read_fault g c = λ e. absurd (not_four _ c.desk.result.status c.desk.result.line c.desk.ensures.answered e)
+returns-clause-read_fault g c = λ e. rose_at_four _ c.desk.result.status c.desk.result.line c.desk.ensures.answered e
 
 pub returns-clause-write_fault : goal.returns-clause-write_fault
 returns-clause-write_fault g c = λ e. rose_at_five _ c.desk.result.status c.desk.result.line c.desk.ensures.answered e
