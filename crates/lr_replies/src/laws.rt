@@ -1,0 +1,22 @@
+//! Laws, as contracts of functions that do nothing.
+ghost use Rattle.lr_replies.specs.Replies.{RepliesAreAdmitted, ListsGain, LogsStayMade, LeasesStayOut};
+
+/// An actor that stands for its own lists takes each reply that the called object gives, whatever the others did.
+pub fn replies_are_admitted()
+    ensures { RepliesAreAdmitted }
+{}
+
+/// A call adds to its caller's own lists what the actor gains by the reply, and nothing to the lists of others.
+pub fn lists_gain()
+    ensures { ListsGain }
+{}
+
+/// A log that calls made is one after a further call.
+pub fn logs_stay_made()
+    ensures { LogsStayMade }
+{}
+
+/// A lease that is out stays out, but for a Close of it.
+pub fn leases_stay_out()
+    ensures { LeasesStayOut }
+{}
