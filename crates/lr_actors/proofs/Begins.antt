@@ -66,7 +66,7 @@ begun_drop context device index chunk place name node at e n steps answer w =
 
 pub task_drop : (context : Context) (device index chunk : ℕ) (place : DevicePlace) (name : Name) (node : ℕ) → slice_get context.devices device ≡ Some place → Some name ≡ slice_get place.names chunk → node ≡ node_at name index context.nodes
     → IsTaskOf context (drops_stripe index device chunk) (tasks.makes (Drop node name index))
-task_drop context device index chunk place name node at e n = (place, at, name, sym e, ap (λ (m : ℕ). tasks.makes (Drop m name index)) n)
+task_drop context device index chunk place name node at e n = (place, at, (name, sym e, ap (λ (m : ℕ). tasks.makes (Drop m name index)) n))
 
 pub begun_flip : (context : Context) (device index chunk byte : ℕ) (place : DevicePlace) (name : Name) (node : ℕ) → slice_get context.devices device ≡ Some place → Some name ≡ slice_get place.names chunk → node ≡ node_at name index context.nodes
     → (steps : List Step) (answer : Answer) → singles.MakesOne (Flip node name index byte) steps answer → WalksJob context (flips_stripe index device chunk byte) steps answer
@@ -75,7 +75,7 @@ begun_flip context device index chunk byte place name node at e n steps answer w
 
 pub task_flip : (context : Context) (device index chunk byte : ℕ) (place : DevicePlace) (name : Name) (node : ℕ) → slice_get context.devices device ≡ Some place → Some name ≡ slice_get place.names chunk → node ≡ node_at name index context.nodes
     → IsTaskOf context (flips_stripe index device chunk byte) (tasks.makes (Flip node name index byte))
-task_flip context device index chunk byte place name node at e n = (place, at, name, sym e, ap (λ (m : ℕ). tasks.makes (Flip m name index byte)) n)
+task_flip context device index chunk byte place name node at e n = (place, at, (name, sym e, ap (λ (m : ℕ). tasks.makes (Flip m name index byte)) n))
 
 zip_length : {A B : Type 0} (R : A → B → Type 0) (xs : List A) (ys : List B) → AllZip R xs ys → length ys ≡ length xs
 zip_length R [] [] z = refl
@@ -97,7 +97,7 @@ begun_forging context device chunk place name p at e t b r s = record {
   ready = r;
   stands = s;
   knows = tt;
-  is = (place, at, name, sym e, ap tasks.forges t);
+  is = (place, at, (name, sym e, ap tasks.forges t));
   task = λ steps answer walk. inl (place, at, damages_one place chunk (Forges context.nodes) name steps answer (sym e) (subst (λ (k : forging.Target). forging.Forging k steps answer) t walk));
   home = tt;
   bound = forging_within (record { nodes = context.nodes; name = name }) p.need b;

@@ -9,8 +9,8 @@ use Rattle.lr_walk.specs.Steps.{Step as JobStep}
 use Rattle.lr_walk.specs.Depot.{Step, step, Reply, sweeps, removed, swept}
 use Rattle.lr_collector.specs.declared.collect.CollectJob.{CollectJob}
 use Rattle.lr_collector.specs.declared.collect.CollectJob.TheVariants.{Sweep}
-use Rattle.lr_collector.specs.Collection.{Ending, with_count, after_removal, after_last, Removes, Sweeps, Collects}
-use Rattle.lr_collector.specs.Progress.{Progress, Need, asking, Rest, Stands}
+use Rattle.lr_collector.specs.Collection.{Ending, with_count, after_removal, after_last, Removes, Collects}
+use Rattle.lr_collector.specs.Progress.{Progress, Need, asking, Rest}
 use Rattle.lr_actors.specs.Collecting.{IsRemoval, Stops, StandsFor}
 
 head_of : (a b : Step) (xs ys : List Step) → a ∷ xs ≡ b ∷ ys → a ≡ b
