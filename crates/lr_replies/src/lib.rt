@@ -5,4 +5,4 @@
 
 mod laws;
 
-pub use laws::{leases_stay_out, lists_gain, logs_stay_made, replies_are_admitted};
+pub use laws::{jobs_are_seen, leases_stay_out, lists_gain, logs_stay_made, replies_are_admitted, trails_are_seen};
