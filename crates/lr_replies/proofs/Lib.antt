@@ -1,1 +1,6 @@
 mod Seen
+mod Told
+mod Out
+mod Tables
+mod Logging
+mod Made
