@@ -4,3 +4,4 @@ mod Out
 mod Tables
 mod Logging
 mod Made
+mod Leases
