@@ -5,3 +5,8 @@ mod Tables
 mod Logging
 mod Made
 mod Leases
+mod Hands
+mod Depots
+mod Under
+mod Calling
+mod Admitted

@@ -160,7 +160,7 @@ one_told device t noted.Drop reply = refl
 one_told device t noted.Reap told.Reaped = rw (eq-eqb device device refl) refl
 one_told device t noted.Reap reply = refl
 
-from_told : (device caller : ℕ) (log : List LogEntry) (t : Option Told) → fold (told_then caller) t log ≡ out_after (told_by device) t (map (device_entry device) (own_entries caller log))
+pub from_told : (device caller : ℕ) (log : List LogEntry) (t : Option Told) → fold (told_then caller) t log ≡ out_after (told_by device) t (map (device_entry device) (own_entries caller log))
 from_told device caller [] t = refl
 from_told device caller (e ∷ log) t = by (from_told device caller log) (e.caller == caller)
   where

@@ -15,12 +15,16 @@ pub fn trails_are_seen()
 /// An actor that stands for its own lists takes each reply that the called object gives, whatever the others did.
 pub fn replies_are_admitted()
     ensures { RepliesAreAdmitted }
-{}
+{
+    lr_history::calls_fit();
+}
 
 /// A call adds to its caller's own lists what the actor gains by the reply, and nothing to the lists of others.
 pub fn lists_gain()
     ensures { ListsGain }
-{}
+{
+    lr_history::calls_fit();
+}
 
 /// A log that calls made is one after a further call.
 pub fn logs_stay_made()
