@@ -258,6 +258,12 @@ module _ (laws : Laws) (w : Objects) (a : Seen) (ready : IsReady w a) (asked : A
         committed_by work work.device pages pieces c reply (device_of work.device (asks.Commit c.pieces c.room) c.is)
         (told_out laws w a ready (at_need (committing pages pieces)) f s work (indices pieces) pages s.1.3)
 
+    -- the machine has the plan of the call
+    pub commit_plan : (pages : ℕ) (pieces : List devices.Piece) → FitsNow (works (at_need (committing pages pieces))) a → StandsNow (works (at_need (committing pages pieces))) a (own_lists w a.number)
+        → (d : Sized DeviceNoted DeviceAnswer) → slice_get w.devices work.device ≡ Some d → plan_of a.number (run d.capacity d.log) ≡ Some (record { caller = a.number; call = work.call; pages = pages })
+    commit_plan pages pieces f s d at =
+        (told_at work.device d (record { call = work.call; needs = indices pieces; pages = pages }) at (told_out laws w a ready (at_need (committing pages pieces)) f s work (indices pieces) pages s.1.3)).plan
+
     -- ---- a load
 
     module _ (chunk : Chunk) (left : Left) where

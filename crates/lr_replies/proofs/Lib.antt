@@ -10,3 +10,5 @@ mod Depots
 mod Under
 mod Calling
 mod Admitted
+mod Gained
+mod Gains
