@@ -1,12 +1,10 @@
 -- An actor takes each reply of the called object.
-use Rattle.std.proofs.Common.{◌≡◌, ℕ, subst}
-use Rattle.lr_walk.specs.Steps.{Reply}
+use Rattle.std.proofs.Common.{subst}
 use Rattle.lr_actors.specs.declared.action.ActorCall.{ActorCall}
 use Rattle.lr_actors.specs.declared.action.ActorReply.{ActorReply}
 use Rattle.lr_actors.specs.declared.running.Running.{Running}
 use Rattle.lr_actors.specs.declared.running.Running.TheVariants as running
 use Rattle.lr_actors.specs.declared.single.Single.{Single}
-use Rattle.lr_actors.specs.declared.single.Single.TheVariants as one
 use Rattle.lr_actors.specs.Asked.{HandsCall, seen_reply}
 use Rattle.lr_actors.specs.Running.{asked, Admits, makes}
 use Rattle.lr_actors.specs.Begun.{IsTaskOf}

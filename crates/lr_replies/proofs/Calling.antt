@@ -1,6 +1,6 @@
 -- A device call takes each reply of the called object.
-use Rattle.std.specs.Prelude.{⊤, IsSome, IsNone}
-use Rattle.std.proofs.Common.{◌≡◌, ◌≤◌, ◌<◌, ◌+◌, ◌*◌, ℕ, zero, suc, List, [], ◌∷◌, ◌++◌, length, map, Bool, true, false, Option, Some, None, slice_get, refl, sym, ap, ◌∙◌, subst, arith, eq-eqb}
+use Rattle.std.specs.Prelude.{IsNone}
+use Rattle.std.proofs.Common.{◌≡◌, ◌≤◌, ◌<◌, ◌*◌, ℕ, suc, List, [], ◌∷◌, length, map, Bool, true, false, Option, Some, None, slice_get, refl, sym, ap, ◌∙◌, subst, arith}
 use Rattle.std.specs.Arc.{arc_value}
 use Rattle.std.specs.List.{AllByRecursion, Contains}
 use Rattle.std.specs.FinMap as map
@@ -8,8 +8,6 @@ use Rattle.std.specs.declared.sync.Arc.{Arc}
 use Rattle.std.specs.declared.alloc.Global.{Global}
 use Rattle.lr_manifest.specs.declared.name.Name.{Name}
 use Rattle.lr_object.specs.Kept.{Sized}
-use Rattle.lr_object.specs.Own.{own_entries}
-use Rattle.lr_object.specs.Grown.{Grown}
 use Rattle.lr_object.specs.declared.id.ObjectId.TheVariants.{Device, Cache}
 use Rattle.lr_convergent.specs.declared.piece.KeptPiece.{KeptPiece}
 use Rattle.lr_device.specs.declared.call.DeviceCall.{DeviceCall}
@@ -18,26 +16,22 @@ use Rattle.lr_device.specs.declared.step.DeviceNoted.{DeviceNoted}
 use Rattle.lr_device.specs.declared.step.DeviceAnswer.{DeviceAnswer}
 use Rattle.lr_device.specs.declared.step.DeviceAnswer.TheVariants as told
 use Rattle.lr_device.specs.Demand.{demand}
-use Rattle.lr_device.specs.Machine.{LogEntry, OpenPlan, plan_of, run}
-use Rattle.lr_device.specs.Room.{RoomSeen, Suits}
+use Rattle.lr_device.specs.Machine.{OpenPlan, plan_of, run}
 use Rattle.lr_device.specs.Answers.{lacking, needs_of, is_small}
 use Rattle.lr_device.specs.Answers as device
-use Rattle.lr_device.specs.Enters.{Enters}
 use Rattle.lr_device.proofs.Exact.{demand_within}
 use Rattle.lr_device.proofs.Grounds.{suits_enough}
 use Rattle.lr_cache.specs.declared.call.CacheCall.{CacheCall}
 use Rattle.lr_cache.specs.declared.call.CacheCall.TheVariants as cached
 use Rattle.lr_cache.specs.declared.call.CacheReply.{CacheReply}
 use Rattle.lr_cache.specs.declared.call.CacheReply.TheVariants as hit
-use Rattle.lr_cache.specs.Machine as cache
-use Rattle.lr_claims.specs.Logs.{IsLegal}
 use Rattle.lr_claims.proofs.Public.{legal}
 use Rattle.lr_depot.specs.Depot.{state}
 use Rattle.lr_depot.specs.declared.call.DepotCall.TheVariants as depot
 use Rattle.lr_walk.specs.declared.place.LoadPlace.{LoadPlace}
 use Rattle.lr_walk.specs.declared.trail.Answer.{Answer}
-use Rattle.lr_walk.specs.Steps.{Call, on_device, on_cache, on_node, on_depot, Reply, by_device, by_cache, by_node, by_depot, Step, step, Answers}
-use Rattle.lr_walk.specs.Load.{look_of, get_of, fetch_of, put_of, fill_of, give_up_of}
+use Rattle.lr_walk.specs.Steps.{Call, on_device, on_cache, on_node, on_depot, Reply, by_device, by_cache, by_node, by_depot, Answers}
+use Rattle.lr_walk.specs.Load.{look_of, fetch_of, fill_of, give_up_of}
 use Rattle.lr_walk.specs.Depot as depots
 use Rattle.lr_walk.specs.Cache as caches
 use Rattle.lr_walk.specs.Node as nodes
@@ -61,7 +55,7 @@ use Rattle.lr_replies.proofs.Tables.{answers_call, never_ended, never_uncalled, 
 use Rattle.lr_replies.proofs.Hands.{the_fetch, the_look, the_fill, the_give_up, the_plan, the_drop, IsCommit, the_commit}
 use Rattle.lr_replies.proofs.Told.{Told, told_in, HasTold, Holds, told_holds, serves_now}
 use Rattle.lr_replies.proofs.Out.{told_by, from_told}
-use Rattle.lr_replies.proofs.Under.{Laws, IsHome, home_of, job, under, steps, plan_out, told_out, fits_claim, fits_plan, lease_out}
+use Rattle.lr_replies.proofs.Under.{Laws, IsHome, home_of, job, under, plan_out, told_out, fits_claim, fits_plan, lease_out}
 
 -- ---- lists
 

@@ -1,6 +1,5 @@
 -- Jobs that call no device take each reply of the called object.
-use Rattle.std.specs.Prelude.{⊤}
-use Rattle.std.proofs.Common.{◌≡◌, ℕ, List, [], ◌∷◌, Bool, Some, None, slice_get, refl, sym, ap, ◌∙◌, subst, inl, inr}
+use Rattle.std.proofs.Common.{◌≡◌, ℕ, List, Bool, Some, refl, ap, ◌∙◌, subst}
 use Rattle.std.specs.FinMap as map
 use Rattle.lr_manifest.specs.Manifest.{ManifestFields}
 use Rattle.lr_stripe.specs.declared.stripe.Stripe.{Stripe}
@@ -8,10 +7,9 @@ use Rattle.lr_depot.specs.Depot.{state}
 use Rattle.lr_depot.specs.declared.call.DepotCall.TheVariants as depot
 use Rattle.lr_depot.specs.declared.call.DepotReply.{DepotReply}
 use Rattle.lr_walk.specs.declared.trail.Answer.{Answer}
-use Rattle.lr_walk.specs.Steps.{Call, on_device, on_cache, on_node, on_depot, Reply, by_device, by_cache, by_node, by_depot, Answers}
+use Rattle.lr_walk.specs.Steps.{on_node, on_depot, Reply, by_device, by_cache, by_node, by_depot, Answers}
 use Rattle.lr_walk.specs.Depot as depots
 use Rattle.lr_walk.specs.Node as nodes
-use Rattle.lr_walk.specs.Calls.{DevicePlace}
 use Rattle.lr_walk.specs.Stripes.{node_at}
 use Rattle.lr_walk.specs.Jobs.{Context}
 use Rattle.lr_collector.specs.declared.collect.CollectJob.{CollectJob}
@@ -31,11 +29,11 @@ use Rattle.lr_actors.specs.Forging as forging
 use Rattle.lr_actors.specs.Collecting as collecting
 use Rattle.lr_actors.specs.Migrating as migrating
 use Rattle.lr_actors.specs.Creating as creating
-use Rattle.lr_actors.specs.Running.{Task, makes}
+use Rattle.lr_actors.specs.Running.{makes}
 use Rattle.lr_actors.specs.Begun.{IsTaskOf}
 use Rattle.lr_actors.specs.Jobs.{Job, calls, creates, migrates, collects, closes, evicts, drops_stripe, flips_stripe, forges, loses}
 use Rattle.lr_replies.specs.Objects.{Objects, Replies}
-use Rattle.lr_replies.specs.Replies.{IsOut, HasLease}
+use Rattle.lr_replies.specs.Replies.{HasLease}
 use Rattle.lr_replies.proofs.Tables.{answers_call, never_ended, never_uncalled, closed_only}
 use Rattle.lr_replies.proofs.Hands.{the_close}
 

@@ -1,6 +1,6 @@
 -- What a call adds to its caller's own lists.
-use Rattle.std.specs.Prelude.{⊤, MatchBool}
-use Rattle.std.proofs.Common.{◌≡◌, ◌≢◌, ℕ, List, [], ◌∷◌, ◌++◌, map, Bool, true, false, cond, Option, Some, None, slice_get, refl, sym, ap, ◌∙◌, subst}
+use Rattle.std.specs.Prelude.{⊤}
+use Rattle.std.proofs.Common.{◌≡◌, ◌≢◌, ℕ, List, [], ◌∷◌, map, true, false, refl, sym, ap, ◌∙◌, subst}
 use Rattle.std.specs.Arc.{arc_value}
 use Rattle.lr_object.specs.declared.entry.Entry.{Entry}
 use Rattle.lr_object.specs.declared.id.ObjectId.{ObjectId}
@@ -29,12 +29,12 @@ use Rattle.lr_depot.specs.declared.call.DepotCall.TheVariants as depot_asks
 use Rattle.lr_depot.specs.declared.call.DepotReply.{DepotReply}
 use Rattle.lr_depot.specs.declared.call.DepotReply.TheVariants as answer
 use Rattle.lr_depot.specs.Machine as depot
-use Rattle.lr_walk.specs.Steps.{Call, on_device, on_cache, on_node, on_depot, Reply, by_device, by_cache, by_node, by_depot, Step, step, cache_step, node_step, depot_step, object_of, is_memory, Answers}
+use Rattle.lr_walk.specs.Steps.{Call, on_device, on_cache, on_node, on_depot, Reply, by_device, by_cache, by_node, by_depot, Step, step, cache_step, node_step, depot_step}
 use Rattle.lr_walk.specs.Depot as depots
 use Rattle.lr_walk.specs.Cache as caches
 use Rattle.lr_walk.specs.Node as nodes
 use Rattle.lr_walk.specs.Device as devices
-use Rattle.lr_walk.specs.Trails.{Lists, is_same, IsReap}
+use Rattle.lr_walk.specs.Trails.{Lists, IsReap}
 use Rattle.lr_walk.proofs.Devices.{device_keeps}
 use Rattle.lr_walk.proofs.Others as walked
 use Rattle.lr_walk.proofs.Depot.{entry_step}
@@ -46,8 +46,8 @@ use Rattle.lr_actors.specs.declared.action.ActorReply.TheVariants as by
 use Rattle.lr_actors.specs.Asked.{a_call, HandsCall, seen_reply, Adds}
 use Rattle.lr_actors.specs.Accounts.{Grows}
 use Rattle.lr_actors.specs.Actor.{Reaps, GrowsBy}
-use Rattle.lr_replies.specs.Objects.{Objects, own_lists, Logs, LogsAt, LeavesOthers, Calls}
-use Rattle.lr_replies.proofs.Tables.{call_same, answers_call}
+use Rattle.lr_replies.specs.Objects.{Objects, own_lists, Logs, LogsAt, Calls}
+use Rattle.lr_replies.proofs.Tables.{call_same}
 use Rattle.lr_replies.proofs.Logging.{own_at, stays_at, grows_at, others_at, others_log}
 
 -- ---- others' lists stay

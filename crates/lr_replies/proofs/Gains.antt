@@ -1,16 +1,13 @@
 -- A call adds to its caller's own lists what the actor gains.
 use Rattle.std.specs.Prelude.{⊤, option_map}
-use Rattle.std.proofs.Common.{◌≡◌, ℕ, List, [], ◌∷◌, map, Bool, false, Option, Some, slice_get, refl, sym, ap, ◌∙◌, subst}
-use Rattle.std.specs.Arc.{arc_value}
+use Rattle.std.proofs.Common.{◌≡◌, ℕ, List, [], ◌∷◌, map, Bool, false, Option, Some, refl, ap, ◌∙◌, subst}
 use Rattle.std.specs.List.{AllByRecursion, Contains}
 use Rattle.lr_object.specs.declared.id.ObjectId.{ObjectId}
-use Rattle.lr_object.specs.declared.id.ObjectId.TheVariants.{Device, Cache, Node, Depot}
+use Rattle.lr_object.specs.declared.id.ObjectId.TheVariants.{Device, Cache}
 use Rattle.lr_device.specs.declared.call.DeviceCall.{DeviceCall}
-use Rattle.lr_device.specs.declared.step.DeviceStep.{DeviceStep}
 use Rattle.lr_device.specs.declared.step.DeviceStep.TheVariants as asks
 use Rattle.lr_device.specs.declared.step.DeviceNoted.{DeviceNoted}
 use Rattle.lr_device.specs.declared.step.DeviceNoted.TheVariants as noted
-use Rattle.lr_device.specs.declared.step.DeviceAnswer.{DeviceAnswer}
 use Rattle.lr_device.specs.declared.step.DeviceAnswer.TheVariants as told
 use Rattle.lr_device.specs.Machine.{State, OpenPlan, plan_of, run}
 use Rattle.lr_device.specs.Enters as device
@@ -18,7 +15,6 @@ use Rattle.lr_walk.specs.Steps.{Call, on_device, on_cache, on_node, on_depot, Re
 use Rattle.lr_walk.specs.Load.{look_of, get_of, fetch_of, put_of, fill_of, give_up_of}
 use Rattle.lr_walk.specs.Depot as depots
 use Rattle.lr_walk.specs.Cache as caches
-use Rattle.lr_walk.specs.Node as nodes
 use Rattle.lr_walk.specs.Device as devices
 use Rattle.lr_walk.specs.Trails.{Lists, IsReap}
 use Rattle.lr_walk.proofs.Devices.{device_keeps}
@@ -49,13 +45,13 @@ use Rattle.lr_actors.specs.Migrating as migrating
 use Rattle.lr_actors.specs.Creating as creating
 use Rattle.lr_actors.specs.Running as jobs
 use Rattle.lr_actors.specs.Actor.{Seen, Now, works, idles, reaps, over, reap_at, reap_of, FitsNow, StandsNow, asks_now, AddsNow, GrowsBy}
-use Rattle.lr_replies.specs.Objects.{Objects, own_lists, Replies, Calls}
+use Rattle.lr_replies.specs.Objects.{Objects, own_lists, Calls}
 use Rattle.lr_replies.specs.Replies.{IsReady, ListsGain}
 use Rattle.lr_replies.proofs.Tables.{answers_call, never_ended, never_uncalled}
 use Rattle.lr_replies.proofs.Hands.{IsCommit, the_commit}
 use Rattle.lr_replies.proofs.Under.{Laws}
 use Rattle.lr_replies.proofs.Calling.{serves_takes, commit_plan}
-use Rattle.lr_replies.proofs.Gained.{others_stay, device_grows, IsTaken, GainsBy, call_gains, GainsReaped, reap_gains}
+use Rattle.lr_replies.proofs.Gained.{others_stay, device_grows, IsTaken, GainsBy, call_gains, reap_gains}
 
 -- ---- which calls have only answers that are logged, but for want of memory and Busy
 

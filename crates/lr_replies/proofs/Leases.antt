@@ -22,11 +22,9 @@ use Rattle.lr_depot.specs.Depot.{first_state, state}
 use Rattle.lr_depot.specs.Machine.{LogEntry, IsNoted, Enters, is_logged, manifest_put, manifest_moved, move_doubted, deletion_doubted, found_there, state_after, after_entry, run}
 use Rattle.lr_depot.proofs.Found.{found_rest}
 use Rattle.lr_walk.specs.Calls.{DevicePlace}
-use Rattle.lr_actors.specs.declared.action.ActorCall.{ActorCall}
 use Rattle.lr_actors.specs.declared.action.ActorCall.TheVariants as call
-use Rattle.lr_actors.specs.declared.action.ActorReply.{ActorReply}
 use Rattle.lr_actors.specs.declared.action.ActorReply.TheVariants as by
-use Rattle.lr_replies.specs.Objects.{Objects, Logs, Calls}
+use Rattle.lr_replies.specs.Objects.{Objects, Logs}
 use Rattle.lr_replies.specs.Replies.{IsOut, IsNoClose, LeasesStayOut}
 
 -- ---- what an entry does to the leases

@@ -1,5 +1,5 @@
 -- The logs stay ones that calls made.
-use Rattle.std.proofs.Common.{◌≡◌, ◌≤◌, ◌*◌, ℕ, List, [], ◌∷◌, ◌++◌, length, Bool, true, false, Option, Some, slice_get, refl, sym, ap, ◌∙◌, subst}
+use Rattle.std.proofs.Common.{◌≡◌, ◌≤◌, ◌*◌, ℕ, List, [], ◌∷◌, ◌++◌, length, Bool, true, false, Option, Some, slice_get, sym, ap, ◌∙◌, subst}
 use Rattle.lr_object.specs.declared.entry.Entry.{Entry}
 use Rattle.lr_object.specs.Grown.{Grown, more}
 use Rattle.lr_object.specs.Kept.{Sized}
@@ -13,11 +13,7 @@ use Rattle.lr_cache.specs.declared.call.CacheCall.{CacheCall}
 use Rattle.lr_cache.specs.declared.call.CacheReply.{CacheReply}
 use Rattle.lr_cache.specs.Machine as cache
 use Rattle.lr_cache.specs.Orderly.{IsCacheLog}
-use Rattle.lr_nodes.specs.declared.call.NodeCall.{NodeCall}
-use Rattle.lr_nodes.specs.declared.call.NodeReply.{NodeReply}
-use Rattle.lr_nodes.specs.Machine as node
 use Rattle.lr_rules.specs.State.{State}
-use Rattle.lr_depot.specs.Begun.{Start}
 use Rattle.lr_depot.specs.declared.call.DepotCall.{DepotCall}
 use Rattle.lr_depot.specs.declared.call.DepotReply.{DepotReply}
 use Rattle.lr_depot.specs.Depot.{IsStart, first_state, state}
@@ -30,7 +26,7 @@ use Rattle.lr_actors.specs.declared.action.ActorCall.{ActorCall}
 use Rattle.lr_actors.specs.declared.action.ActorCall.TheVariants as call
 use Rattle.lr_actors.specs.declared.action.ActorReply.{ActorReply}
 use Rattle.lr_actors.specs.declared.action.ActorReply.TheVariants as by
-use Rattle.lr_replies.specs.Objects.{Objects, Logs, LogsAt, Calls}
+use Rattle.lr_replies.specs.Objects.{Objects, Logs, Calls}
 use Rattle.lr_replies.specs.Replies.{AreMade, LogsStayMade}
 use Rattle.lr_replies.proofs.Logging.{each_at}
 

@@ -1,8 +1,7 @@
 -- What an actor has out, by its own lists, is what the steps of the job under way left.
-use Rattle.std.proofs.Common.{◌≡◌, ◌≤◌, ◌<◌, ℕ, zero, suc, ◌+◌, List, [], ◌∷◌, ◌++◌, length, take, drop, map, filter, Bool, true, false, not, cond, fold, nat_eq, Option, Some, None, slice_get, refl, sym, ap, subst, ◌∙◌, arith, add-one, eqb-true, eq-eqb}
+use Rattle.std.proofs.Common.{◌≡◌, ◌≤◌, ℕ, zero, suc, ◌+◌, List, [], ◌∷◌, ◌++◌, length, take, drop, map, filter, Bool, true, false, not, cond, fold, nat_eq, Option, Some, None, slice_get, refl, sym, ap, subst, ◌∙◌, arith, add-one, eq-eqb}
 use Rattle.std.specs.Prelude.{◌&&◌, ◌==◌, option_map}
 use Rattle.std.specs.Option.{option_to_list}
-use Rattle.std.specs.Arc.{arc_value}
 use Rattle.std.specs.List.{AllByRecursion, flat_map, range_with_len}
 use Rattle.std.proofs.Math.Seq.{take-length}
 use Rattle.std.proofs.lemmas.List.Concat.{flat_map-append}
@@ -10,7 +9,7 @@ use Rattle.std.proofs.lemmas.List.Sums.{fold-append}
 use Rattle.lr_manifest.specs.declared.name.Name.{Name}
 use Rattle.lr_object.specs.Own.{own_entries}
 use Rattle.lr_object.specs.declared.id.ObjectId.{ObjectId}
-use Rattle.lr_object.specs.declared.id.ObjectId.TheVariants.{Device, Cache, Node, Depot}
+use Rattle.lr_object.specs.declared.id.ObjectId.TheVariants.{Device, Cache}
 use Rattle.lr_device.specs.declared.call.DeviceCall.{DeviceCall}
 use Rattle.lr_device.specs.declared.step.DeviceNoted.{DeviceNoted}
 use Rattle.lr_device.specs.declared.step.DeviceNoted.TheVariants as noted
@@ -21,7 +20,7 @@ use Rattle.lr_walk.specs.declared.trail.Answer.{Answer}
 use Rattle.lr_walk.specs.declared.trail.Answer.TheVariants.{Cut, Unbegun}
 use Rattle.lr_walk.specs.declared.trail.Did.{Did}
 use Rattle.lr_walk.specs.declared.trail.JobResult.{JobResult}
-use Rattle.lr_walk.specs.Steps.{Call, on_device, Reply, by_device, Step, step, object_of, is_memory}
+use Rattle.lr_walk.specs.Steps.{Call, on_device, Reply, by_device, Step, step}
 use Rattle.lr_walk.specs.Device as devices
 use Rattle.lr_walk.specs.Jobs.{Context}
 use Rattle.lr_walk.specs.Trails.{Lists, is_same, IsAt, ReadsOne, Reads, is_entry_of, places_in, places, AreCounted}
@@ -34,7 +33,7 @@ use Rattle.lr_actors.specs.Accounts.{Account, places_of, Stands, IsEnd}
 use Rattle.lr_actors.specs.Serving.{Work, IsElsewhere, IsPlanned}
 use Rattle.lr_replies.specs.Seen.{seen_job}
 use Rattle.lr_replies.proofs.Seen.{jobs_seen}
-use Rattle.lr_replies.proofs.Told.{Told, told_after, told_then, told_in}
+use Rattle.lr_replies.proofs.Told.{Told, told_after, told_then}
 
 -- ---- an actor's own list is what its paths name
 

@@ -1,5 +1,4 @@
 -- Each reply of the called object is one of its table.
-use Rattle.std.specs.Prelude.{⊤}
 use Rattle.std.proofs.Common.{◌≡◌, ℕ, List, Option, Some, None, slice_get, refl, sym, ap, ◌∙◌, subst}
 use Rattle.std.specs.Arc.{arc_value}
 use Rattle.std.specs.FinMap as map
@@ -12,7 +11,6 @@ use Rattle.lr_device.specs.declared.step.DeviceStep.TheVariants as asks
 use Rattle.lr_device.specs.declared.step.DeviceAnswer.{DeviceAnswer}
 use Rattle.lr_cache.specs.Machine as cache
 use Rattle.lr_nodes.specs.Machine as node
-use Rattle.lr_depot.specs.declared.call.DepotCall.{DepotCall}
 use Rattle.lr_depot.specs.declared.call.DepotCall.TheVariants as depot
 use Rattle.lr_depot.specs.declared.call.DepotReply.{DepotReply}
 use Rattle.lr_depot.specs.declared.call.DepotReply.TheVariants as told
@@ -20,12 +18,11 @@ use Rattle.lr_depot.specs.Depot.{state}
 use Rattle.lr_depot.specs.Machine.{DepotStep}
 use Rattle.lr_walk.specs.declared.trail.Answer.{Answer}
 use Rattle.lr_walk.specs.declared.place.LoadPlace.{LoadPlace}
-use Rattle.lr_walk.specs.Steps.{Call, on_device, on_cache, on_node, on_depot, Reply, by_device, by_cache, by_node, by_depot, Answers}
+use Rattle.lr_walk.specs.Steps.{Call, on_device, by_device, by_cache, by_node, by_depot, Answers}
 use Rattle.lr_walk.specs.Depot as depots
 use Rattle.lr_walk.specs.Cache as caches
 use Rattle.lr_walk.specs.Node as nodes
 use Rattle.lr_walk.specs.Device as devices
-use Rattle.lr_walk.specs.Calls.{DevicePlace}
 use Rattle.lr_walk.proofs.Devices.{device_answers}
 use Rattle.lr_walk.proofs.Others.{cache_answers, node_answers}
 use Rattle.lr_walk.proofs.Depot.{answers_by_table}
@@ -34,10 +31,9 @@ use Rattle.lr_actors.specs.declared.action.ActorCall.{ActorCall}
 use Rattle.lr_actors.specs.declared.action.ActorCall.TheVariants as call
 use Rattle.lr_actors.specs.declared.action.ActorReply.{ActorReply}
 use Rattle.lr_actors.specs.declared.action.ActorReply.TheVariants as by
-use Rattle.lr_actors.specs.Asked.{Asked, a_call, a_commit, an_end, no_call, HandsCall, seen_reply}
+use Rattle.lr_actors.specs.Asked.{a_call, an_end, no_call, HandsCall, seen_reply}
 use Rattle.lr_actors.specs.Serving.{HasLease}
 use Rattle.lr_replies.specs.Objects.{Objects, Replies}
-use Rattle.lr_replies.specs.Replies.{IsOut}
 
 pub call_same : (x y : Call) → a_call x ≡ a_call y → x ≡ y
 call_same x y e = cc

@@ -1,14 +1,13 @@
 -- The plan that a device has of a caller is what the answer to the caller's last Plan told: its call, its page buffers, and a
 -- demand that has only shrunk since.
-use Rattle.std.proofs.Common.{◌≡◌, ℕ, List, [], ◌∷◌, ◌++◌, map, filter, Bool, true, false, not, cond, fold, nat_eq, Option, Some, None, find, refl, sym, ap, subst, ◌∙◌, append_assoc}
-use Rattle.std.specs.Prelude.{◌==◌, ◌||◌, option_map, ⊤}
+use Rattle.std.proofs.Common.{◌≡◌, ℕ, List, [], ◌∷◌, ◌++◌, map, Bool, true, false, not, cond, fold, Option, Some, None, find, refl, sym, ap, subst, ◌∙◌, append_assoc}
+use Rattle.std.specs.Prelude.{◌==◌, ◌||◌, ⊤}
 use Rattle.std.specs.Arc.{arc_value}
 use Rattle.std.specs.Option.{is_some, option_or}
 use Rattle.std.proofs.lemmas.Bool.{eqb-true, eq-eqb}
 use Rattle.std.proofs.lemmas.List.Folds.{find-append}
 use Rattle.std.proofs.lemmas.List.Sums.{fold-append}
 use Rattle.lr_object.specs.Grown.{Grown, same, more}
-use Rattle.lr_object.specs.Own.{own_entries}
 use Rattle.lr_convergent.specs.declared.piece.KeptPiece.{KeptPiece}
 use Rattle.lr_device.specs.declared.call.DeviceCall.{DeviceCall}
 use Rattle.lr_device.specs.declared.step.DeviceStep.{DeviceStep}

@@ -1,18 +1,15 @@
 -- What is known of an actor with a job under way: its call fits what its own lists say is out.
-use Rattle.std.proofs.Common.{◌≡◌, ◌≤◌, ◌<◌, ℕ, zero, suc, List, [], ◌∷◌, ◌++◌, length, None, Option, Some, slice_get, refl, sym, ap, ◌∙◌, subst, append_assoc, arith}
+use Rattle.std.proofs.Common.{◌≡◌, ◌≤◌, ◌<◌, ℕ, zero, suc, List, [], ◌∷◌, ◌++◌, length, None, Option, Some, slice_get, refl, sym, subst, append_assoc, arith}
 use Rattle.std.specs.List.{AllByRecursion}
 use Rattle.lr_manifest.specs.declared.name.Name.{Name}
 use Rattle.lr_object.specs.declared.id.ObjectId.TheVariants.{Device, Cache}
 use Rattle.lr_device.specs.declared.call.DeviceCall.{DeviceCall}
 use Rattle.lr_walk.specs.declared.trail.Answer.{Answer}
-use Rattle.lr_walk.specs.declared.trail.JobResult.{JobResult}
 use Rattle.lr_walk.specs.Steps.{Call, Reply, Step, step}
-use Rattle.lr_walk.specs.Calls.{DevicePlace}
 use Rattle.lr_walk.specs.Jobs.{Context}
 use Rattle.lr_walk.specs.Trails.{Lists}
 use Rattle.lr_history.specs.Ready.{claim_by, FitsClaim, plan_by, FitsPlan, out_after, WalksFit, NextFits, PathsTell, FitIsPlanned, FitIsGranted}
 use Rattle.lr_actors.specs.declared.trail.ActorState.{ActorState}
-use Rattle.lr_actors.specs.declared.trail.ActorState.TheVariants.{Unfinished}
 use Rattle.lr_actors.specs.declared.running.Running.{Running}
 use Rattle.lr_actors.specs.Asked.{Adds}
 use Rattle.lr_actors.specs.Running as running
@@ -25,7 +22,6 @@ use Rattle.lr_replies.specs.Seen.{seen_job}
 use Rattle.lr_replies.specs.Objects.{Objects, own_lists}
 use Rattle.lr_replies.specs.Replies.{IsOut, HasLease, IsReady}
 use Rattle.lr_replies.proofs.Seen.{jobs_seen}
-use Rattle.lr_replies.proofs.Told.{Told}
 use Rattle.lr_replies.proofs.Out.{claim_now, plan_now, told_by, told_now}
 
 -- what a history says of calls that fit

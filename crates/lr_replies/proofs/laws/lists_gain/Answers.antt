@@ -1,5 +1,4 @@
 use Rattle.lr_replies.proofs.Gains.{lists_gained}
-use Rattle.lr_replies.proofs.Under.{Laws}
 use Rattle.lr_replies.proofs.laws.lists_gain.Goals as goal
 
 pub returns : goal.returns
