@@ -1,5 +1,5 @@
 -- How many steps the jobs of the depot may still make.
-use Rattle.std.specs.Prelude.{◌≡◌, ◌≤◌, ◌+◌, ◌-◌, ◌*◌, ◌/◌, ℕ, length}
+use Rattle.std.specs.Prelude.{◌≡◌, ◌≤◌, ◌+◌, ◌-◌, ◌*◌, ◌/◌, ℕ, length, ⊤}
 use Rattle.lr_walk.specs.Depot.{Reply, moving}
 use Rattle.lr_migrator.specs.Progress as migrations
 use Rattle.lr_creator.specs.Progress as creations
@@ -18,6 +18,11 @@ moves_left need = 0
 abbrev pub moves_ahead : migrations.Need → ℕ
 moves_ahead migrations.beginning = 2 * 20480 + 3
 moves_ahead need = moves_left need
+
+-- a manifest in the reply has at most so many chunks
+abbrev pub HasFewChunks : Reply → Type 0
+HasFewChunks (moving session from to fields) = length fields.names ≤ 20480
+HasFewChunks reply = ⊤
 
 -- of a collection, the removals of a sweep not counted
 abbrev pub collects_left : collections.Need → ℕ

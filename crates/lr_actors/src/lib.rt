@@ -33,7 +33,7 @@ pub use begin::Begun;
 pub use collecting::CollectingJob;
 pub use creating::CreatingJob;
 pub use forge::ForgeJob;
-pub use laws::{calls_are_jobs, damages_are_jobs, migrations_near_their_end};
+pub use laws::{calls_are_jobs, damages_are_jobs, migrations_near_their_end, sweeps_may_stop};
 pub use migrating::MigratingJob;
 pub use place::{Context, DevicePlace, Parts};
 pub use running::{JobTurn, Running};
