@@ -56,6 +56,7 @@ use Rattle.lr_replies.proofs.Hands.{the_fetch, the_look, the_fill, the_give_up, 
 use Rattle.lr_replies.proofs.Told.{Told, told_in, HasTold, Holds, told_holds, serves_now}
 use Rattle.lr_replies.proofs.Out.{told_by, from_told}
 use Rattle.lr_replies.proofs.Under.{Laws, IsHome, home_of, job, under, plan_out, told_out, fits_claim, fits_plan, lease_out}
+use Rattle.lr_replies.proofs.Facts.{same_some, none_some}
 
 -- ---- lists
 
@@ -96,14 +97,8 @@ is_none_some : {X P : Type 0} (o : Option X) (x : X) → o ≡ Some x → IsNone
 is_none_some None x e n = absurd (cc)
 is_none_some (Some y) x e n = absurd (cc)
 
-same_some : {X : Type 0} (o : Option X) (x y : X) → o ≡ Some x → o ≡ Some y → x ≡ y
-same_some o x y e f = cc
-
 false_true : {P : Type 0} (b : Bool) → b ≡ false → b ≡ true → P
 false_true b e f = absurd (cc)
-
-none_none : {X P : Type 0} (o : Option X) (x : X) → o ≡ None → o ≡ Some x → P
-none_none o x e f = absurd (cc)
 
 module _ (laws : Laws) (w : Objects) (a : Seen) (ready : IsReady w a) (asked : ActorCall) (reply : ActorReply) (replies : Replies w a.number asked reply) where
   -- ---- the cache, to calls that fit
@@ -213,7 +208,7 @@ module _ (laws : Laws) (w : Objects) (a : Seen) (ready : IsReady w a) (asked : A
 
       each : (x : DeviceAnswer) → device.Answers size d.0.log a.number (asks.Commit c.pieces c.room) x → Admits work (committing pages handed) (by_device (devices.seen_reply x))
       each told.NoPlan g = is_none_some _ plan has.plan g
-      each (told.Lacking i) g = none_none _ i (enough g.0 g.1) g.2
+      each (told.Lacking i) g = none_some _ i (enough g.0 g.1) g.2
       each told.Small g = false_true _ (roomy g.0 g.1) g.3
       each (told.Committed x) g = tt
       each told.OutOfMemory g = false_true _ (roomy plan has.plan) (g plan has.plan (enough plan has.plan))

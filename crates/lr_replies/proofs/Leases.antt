@@ -26,6 +26,7 @@ use Rattle.lr_actors.specs.declared.action.ActorCall.TheVariants as call
 use Rattle.lr_actors.specs.declared.action.ActorReply.TheVariants as by
 use Rattle.lr_replies.specs.Objects.{Objects, Logs}
 use Rattle.lr_replies.specs.Replies.{IsOut, IsNoClose, LeasesStayOut}
+use Rattle.lr_replies.proofs.Facts.{none_some}
 
 -- ---- what an entry does to the leases
 
@@ -114,9 +115,6 @@ module _ (s : State) where
 
 abbrev AreBelow : State → Type 0
 AreBelow s = (n : ℕ) (l : List ℕ × ManifestFields) → map.get s.desk.leases n ≡ Some l → n < s.desk.next_lease
-
-none_some : {X P : Type 0} (o : Option X) (x : X) → o ≡ None → o ≡ Some x → P
-none_some o x e f = absurd (cc)
 
 below_next : (s : State) (e : DepotNoted) (t : State) → Leaves s e t → AreBelow s → AreBelow t
 below_next s e t (inl k) h n l at = rw k.1 (h n l (ap (λ v. map.get v n) (sym k.0) ∙ at))

@@ -8,9 +8,7 @@ use Rattle.lr_object.specs.Own.{own_entries}
 use Rattle.lr_object.proofs.OwnEntries.{own_entries-own, own_entries-other}
 use Rattle.lr_walk.specs.Steps.{Step}
 use Rattle.lr_replies.specs.Objects.{log_of, Logs, IsReplaced, LogsAt}
-
-same_some : {X : Type 0} (o : Option X) (x y : X) → o ≡ Some x → o ≡ Some y → x ≡ y
-same_some o x y e f = cc
+use Rattle.lr_replies.proofs.Facts.{same_some}
 
 pub differs : (n m : ℕ) → nat_eq n m ≡ false → m ≢ n
 differs n m e f = false≢true (sym e ∙ eq-eqb n m (sym f))

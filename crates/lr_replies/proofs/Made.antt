@@ -1,5 +1,5 @@
 -- The logs stay ones that calls made.
-use Rattle.std.proofs.Common.{◌≡◌, ◌≤◌, ◌*◌, ℕ, List, [], ◌∷◌, ◌++◌, length, Bool, true, false, Option, Some, slice_get, sym, ap, ◌∙◌, subst}
+use Rattle.std.proofs.Common.{◌≡◌, ◌≤◌, ◌*◌, ℕ, List, [], ◌∷◌, ◌++◌, length, Bool, true, false, Some, slice_get, sym, ap, ◌∙◌, subst}
 use Rattle.lr_object.specs.declared.entry.Entry.{Entry}
 use Rattle.lr_object.specs.Grown.{Grown, more}
 use Rattle.lr_object.specs.Kept.{Sized}
@@ -29,9 +29,7 @@ use Rattle.lr_actors.specs.declared.action.ActorReply.TheVariants as by
 use Rattle.lr_replies.specs.Objects.{Objects, Logs, Calls}
 use Rattle.lr_replies.specs.Replies.{AreMade, LogsStayMade}
 use Rattle.lr_replies.proofs.Logging.{each_at}
-
-same_some : {X : Type 0} (o : Option X) (x y : X) → o ≡ Some x → o ≡ Some y → x ≡ y
-same_some o x y e f = cc
+use Rattle.lr_replies.proofs.Facts.{same_some}
 
 run_more : (s : State) (log : List depot.LogEntry) (e : depot.LogEntry) (asked : DepotCall) (reply : DepotReply) → IsRun s log → DepotStep (run s log) e.caller asked reply → depot.Enters asked reply e → IsRun s (log ++ e ∷ [])
 run_more s [] e asked reply is d n = (asked, reply, d, n, tt)

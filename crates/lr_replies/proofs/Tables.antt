@@ -34,6 +34,7 @@ use Rattle.lr_actors.specs.declared.action.ActorReply.TheVariants as by
 use Rattle.lr_actors.specs.Asked.{a_call, an_end, no_call, HandsCall, seen_reply}
 use Rattle.lr_actors.specs.Serving.{HasLease}
 use Rattle.lr_replies.specs.Objects.{Objects, Replies}
+use Rattle.lr_replies.proofs.Facts.{same_some, none_some}
 
 pub call_same : (x y : Call) → a_call x ≡ a_call y → x ≡ y
 call_same x y e = cc
@@ -79,9 +80,6 @@ module _ (w : Objects) (caller : ℕ) where
 
 -- ---- the depot's replies while a lease is out
 
-some_none : {X P : Type 0} (o : Option X) (x : X) → o ≡ Some x → o ≡ None → P
-some_none o x e f = absurd (cc)
-
 same_out : (o : Option (List ℕ × ManifestFields)) (i j : List ℕ) (m n : ManifestFields) → o ≡ Some (i, m) → o ≡ Some (j, n) → m ≡ n
 same_out o i j m n e f = by (sym e ∙ f)
   where
@@ -92,15 +90,12 @@ same_out o i j m n e f = by (sym e ∙ f)
         fields None = m
         fields (Some l) = l.1
 
-same_some : {X : Type 0} (o : Option X) (x y : X) → o ≡ Some x → o ≡ Some y → x ≡ y
-same_some o x y e f = cc
-
 same_chunk : (a b : ℕ) (x y : List ℕ) → kind.Chunk a x ≡ kind.Chunk b y → x ≡ y
 same_chunk a b x y e = cc
 
 -- of a Close it isn't that there is no lease
 pub closed_only : (s : State) (c lease : ℕ) (image : List ℕ) (m : ManifestFields) (r : DepotReply) → map.get s.desk.leases lease ≡ Some (image, m) → DepotStep s c (depot.Close lease) r → depots.seen_reply r ≡ depots.no_lease → ⊥
-closed_only s c lease image m told.NoLease out d e = some_none (map.get s.desk.leases lease) (image, m) out d
+closed_only s c lease image m told.NoLease out d e = none_some (map.get s.desk.leases lease) (image, m) d out
 closed_only s c lease image m told.Closed out d e = cc
 closed_only s c lease image m told.OutOfMemory out d e = cc
 closed_only s c lease image m r out d e = absurd d
@@ -108,10 +103,10 @@ closed_only s c lease image m r out d e = absurd d
 -- a Fetch finds the chunk's name
 pub fetched_only : (s : State) (c : ℕ) (place : LoadPlace) (image : List ℕ) (m : ManifestFields) (r : DepotReply) → map.get s.desk.leases place.lease ≡ Some (image, m) → slice_get m.names place.index ≡ Some place.name
     → DepotStep s c (depot.Fetch place.lease place.index) r → HasLease (by_depot (depots.seen_reply r)) × loads.HasName place (by_depot (depots.seen_reply r))
-fetched_only s c place image m told.NoLease out named d = some_none (map.get s.desk.leases place.lease) (image, m) out d
+fetched_only s c place image m told.NoLease out named d = none_some (map.get s.desk.leases place.lease) (image, m) d out
 fetched_only s c place image m told.NoChunk out named d =
     let same : m ≡ d.1 = same_out (map.get s.desk.leases place.lease) image d.0 m d.1 out d.2 in
-    some_none (slice_get m.names place.index) place.name named (ap (λ (f : ManifestFields). slice_get f.names place.index) same ∙ d.3)
+    none_some (slice_get m.names place.index) place.name (ap (λ (f : ManifestFields). slice_get f.names place.index) same ∙ d.3) named
 fetched_only s c place image m (told.Fetched chunk) out named d =
     let f = d.1 in
     let same : m ≡ f.manifest = same_out (map.get s.desk.leases place.lease) image f.image m f.manifest out f.out in
