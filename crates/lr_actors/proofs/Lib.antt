@@ -17,3 +17,5 @@ pub mod Runs
 pub mod Begins
 pub mod Accounted
 pub mod Ended
+pub mod UnderWay
+pub mod Keeping

@@ -18,3 +18,6 @@ pub mod Damaged
 pub mod Bounds
 pub mod Actor
 pub mod Trailed
+pub mod Tally
+pub mod Book
+pub mod Body

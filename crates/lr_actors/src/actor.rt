@@ -1,5 +1,5 @@
 //! An actor: its jobs one after another, and its crash.
-ghost use Rattle.std.specs.Prelude.{◌≡◌, true, false, IfOk, map};
+ghost use Rattle.std.specs.Prelude.{◌≡◌, true, false, IfOk};
 ghost use Rattle.std.specs.Arc.{arc_value};
 ghost use Rattle.std.specs.List.{AllByRecursion};
 ghost use Rattle.lr_actors.specs.Asked.{seen_reply};
@@ -9,8 +9,9 @@ ghost use Rattle.lr_actors.specs.Actor.{idles, AreHosted, MayBeGiven, IsActor, I
 ghost use Rattle.lr_actors.specs.Trailed.{jobs_seen, IsTrailNow, IsTrailOf};
 
 use crate::action::{ActorCall, ActorReply};
+use crate::body::{self, Body};
 use crate::place::Context;
-use crate::trail::{ActorState, Trail};
+use crate::trail::Trail;
 use lr_script::Job;
 use lr_spec::OutOfMemory;
 use std::alloc::Global;
@@ -30,15 +31,38 @@ pub enum ActorAction {
 /// was made with, its trail so far, and what it does now.
 #[derive(Drop)]
 pub struct Actor {
+    body: Body,
+}
+
+impl Model for Actor {
+    ghost use Rattle.lr_actors.specs.Actor.{Seen};
+
+    ghost Value = { Seen };
+
+    ghost use Rattle.lr_actors.specs.Body.{seen, IsWholeBody};
+
+    ghost view = { λ a. seen a.body };
+
+    ghost invariant = { λ a. IsWholeBody a.body };
 }
 
 impl Actor {
     /// An actor of these jobs, which crashes at the end of so many steps, for 0 as soon as it is made.
-    pub fn new(alloc: Global, number: u32, jobs: Vec<Job>, crash: Option<u64>, context: Arc<Context>) -> Result<Actor, OutOfMemory>
+    pub fn new(
+        alloc: Global,
+        number: u32,
+        jobs: Vec<Job>,
+        crash: Option<u64>,
+        context: Arc<Context>,
+    ) -> Result<Actor, OutOfMemory>
         requires context { IsContext (seen_context (arc_value context)) }
         requires hosted { AreHosted (seen_context (arc_value context)) (arc_value context).hosts }
         requires jobs { AllByRecursion (MayBeGiven (seen_context (arc_value context)) (arc_value context).hosts) (jobs_seen jobs.items) }
         ensures { IfOk result (λ a. IsNew number (seen_context (arc_value context)) (arc_value context).hosts (jobs_seen jobs.items) crash a) }
+    {
+        let body = body::make(alloc, number, jobs, crash, context)?;
+        Ok(Actor { body })
+    }
 
     /// Hands out the prepared call, or tells an idle step or the end. It takes no memory.
     pub fn next(&mut self) -> ActorAction
@@ -47,24 +71,39 @@ impl Actor {
         // What an actor stands for, with the call and any reply to it, is a walk of its job or the front of one.
         ensures fronts { Fronts self.old }
         ensures handed { self.new ≡ handed self.old }
+    {
+        body::next(&mut self.body)
+    }
 
     /// Takes the reply to the call handed out, and prepares the next one.
     pub fn take(&mut self, reply: ActorReply)
         requires out { self.old.out ≡ true }
         requires admitted { Admits self.old (seen_reply reply) }
         ensures { Took self.old (seen_reply reply) self.new }
+    {
+        body::take(&mut self.body, reply);
+    }
 
     /// Makes the idle step, and prepares what comes next.
     pub fn pass(&mut self)
         requires { self.old.now ≡ idles }
         ensures { Passed self.old self.new }
+    {
+        body::pass(&mut self.body);
+    }
 
     /// The trail so far: of the job under way and later ones it has no results. It takes no memory.
     pub fn trail(&self) -> &Trail
         ensures { IsTrailNow self.now result.now }
+    {
+        &self.body.book.trail
+    }
 
     /// The trail, with a result for each job: that of an actor which has neither ended nor crashed is cut at the job under
     /// way. It takes no memory.
     pub fn into_trail(self) -> Trail
         ensures { IsTrailOf self result }
+    {
+        body::into_trail(self.body)
+    }
 }

@@ -13,7 +13,10 @@
 
 mod accounts;
 mod action;
+mod actor;
 mod begin;
+mod body;
+mod book;
 mod bytes;
 mod collecting;
 mod creating;
@@ -25,10 +28,13 @@ mod place;
 mod running;
 mod serving;
 mod single;
+mod tally;
+mod trail;
 mod turns;
 
 pub use accounts::{accounts_end_as_trails, accounts_grow};
 pub use action::{ActorCall, ActorReply, JobAction};
+pub use actor::{Actor, ActorAction};
 pub use begin::Begun;
 pub use collecting::CollectingJob;
 pub use creating::CreatingJob;
@@ -39,3 +45,4 @@ pub use place::{Context, DevicePlace, Parts};
 pub use running::{JobTurn, Running};
 pub use serving::DeviceJob;
 pub use single::{Single, SingleJob};
+pub use trail::{ActorState, Trail};
