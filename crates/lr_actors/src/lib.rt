@@ -30,6 +30,7 @@ mod turns;
 pub use accounts::{accounts_end_as_trails, accounts_grow};
 pub use action::{ActorCall, ActorReply, JobAction};
 pub use begin::Begun;
+pub use bytes::raw_bytes;
 pub use collecting::CollectingJob;
 pub use creating::CreatingJob;
 pub use forge::ForgeJob;
