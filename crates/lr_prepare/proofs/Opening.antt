@@ -1,5 +1,5 @@
 -- a rotation, and an opened image
-use Rattle.std.proofs.Common.{◌≡◌, ℕ, List, [], ◌∷◌, ◌++◌, length, map, refl, sym, ap, ◌∙◌, append-nil}
+use Rattle.std.proofs.Common.{◌≡◌, ℕ, List, [], ◌∷◌, ◌++◌, length, map, refl, sym, ap, subst, ◌∙◌, append-nil}
 use Rattle.std.specs.Arc.{arc_value}
 use Rattle.std.specs.declared.sync.Arc.{Arc}
 use Rattle.std.specs.declared.alloc.Global.{Global}
@@ -14,12 +14,13 @@ use Rattle.lr_depot.specs.declared.call.DepotTold.TheVariants as told
 use Rattle.lr_depot.specs.Machine.{LogEntry, DepotStep, Enters}
 use Rattle.lr_depot.specs.Depot.{Seen, state}
 use Rattle.lr_actors.specs.Places.{seen_place, IsPlace}
-use Rattle.lr_script.specs.Seen.{Root, Device}
+use Rattle.lr_actors.specs.Creating.{raw_of}
+use Rattle.lr_script.specs.Seen.{BodySeen, Host, Root, Image, Device}
 use Rattle.lr_history.specs.Run.{DeviceLine}
-use Rattle.lr_setup.specs.Setup.{rotates, opens}
+use Rattle.lr_setup.specs.Setup.{rotates, creates, opens}
 use Rattle.lr_images.proofs.Calling.{Logs}
 use Rattle.lr_prepare.specs.declared.draft.Draft.{Draft}
-use Rattle.lr_prepare.specs.New.{new_device, new_cache, place_at, IsAt, IsMore, IsDone}
+use Rattle.lr_prepare.specs.New.{new_device, new_cache, place_at, IsAt, IsMore, IsDone, IsCreated}
 use Rattle.lr_prepare.proofs.Entries.{is_entry, told_opened}
 use Rattle.lr_prepare.proofs.Keys.{key_each}
 use Rattle.std.specs.Prelude.{true}
@@ -67,3 +68,27 @@ opened_line old new image tenant host lease m draft after (root, may, number) (e
 -- a place with a key for each chunk
 pub keyed_place : (d : DeviceLine) (host lease : ℕ) (m : ManifestFields) (tenant : List ℕ) → IsManifest m → IsAt d host lease m (key_list m tenant) → IsPlace (place_at d)
 keyed_place d host lease m tenant is at = ap length at.keys_are ∙ (key_each m tenant is ∙ sym (ap (λ (f : ManifestFields). length f.names) at.manifest_is))
+
+-- a host is nothing to the depot
+pub host_line : {O : Type 0} (depot : Seen O) (capacity : ℕ) (draft after : Draft) → IsMore (capacity ∷ []) [] draft after → (name : List ℕ) (before : ℕ) → IsDone (Host name capacity) before depot depot draft after
+host_line depot capacity draft after more name before = record { lines = []; are = refl; own = []; log = sym (append-nil depot.log); ran = λ images count runs. refl; more = more }
+
+-- an image line makes nothing
+pub image_line : {O : Type 0} (old new : Seen O) (image tenant raw : List ℕ) (len : ℕ) (body : BodySeen) → raw ≡ raw_of len body → IsCreated image tenant raw old new → (before : ℕ) (draft : Draft) → IsDone (Image image tenant len body) before old new draft draft
+image_line old new image tenant raw len body e h before draft = record {
+  lines = creates h.line ∷ [];
+  are = (h.line, refl, h.image_is, h.tenant_is, h.raw_is ∙ e);
+  own = h.own;
+  log = h.log;
+  ran = λ images count runs. h.ran images runs;
+  more = none_more draft;
+}
+
+-- the device that was added stands on the opened image
+pub opened_more : (seen m : ManifestFields) (host lease : ℕ) (tenant : List ℕ) (keys : List (List ℕ)) (draft after : Draft) → seen ≡ m → HasTag seen tenant → keys ≡ key_list seen tenant → IsManifest m
+    → ((d : DeviceLine) → IsAt d host lease m keys → IsPlace (place_at d) → IsMore [] (d ∷ []) draft after)
+    → HasTag m tenant × ((d : DeviceLine) → IsAt d host lease m (key_list m tenant) → IsPlace (place_at d) × IsMore [] (d ∷ []) draft after)
+opened_more seen m host lease tenant keys draft after same tag opened whole more = (subst (λ (f : ManifestFields). HasTag f tenant) same tag, λ d at. by d at (keyed_place d host lease m tenant whole at))
+  where
+    by : (d : DeviceLine) → IsAt d host lease m (key_list m tenant) → IsPlace (place_at d) → IsPlace (place_at d) × IsMore [] (d ∷ []) draft after
+    by d at place = (place, more d (record { host_is = at.host_is; lease_is = at.lease_is; manifest_is = at.manifest_is; keys_are = at.keys_are ∙ sym (opened ∙ ap (λ (f : ManifestFields). key_list f tenant) same) }) place)

@@ -83,7 +83,7 @@ reached_none faults lines now draft log devices places caches = record { start =
 pub reached_more : {O : Type 0} (faults : O → ℕ) (lines : List (ℕ × Setup)) (i : ℕ) (first old new : Seen O) (draft after : Draft) (x : ℕ × Setup) (steps : List Step) → i < length lines → get_or lines i x ≡ x
     → HasReached faults lines i first old draft → Calls faults old new steps → ((before : ℕ) → IsDone (setup_seen x.1) before old new draft after) → HasReached faults lines (i + 1) first new after
 reached_more faults lines i first old new draft after x steps less at h calls done =
-    let front : take (i + 1) lines ≡ take i lines ++ x ∷ [] = ap (λ (n : ℕ). take n lines) add-one ∙ (take-suc lines i x less ∙ ap (λ (y : ℕ × Setup). take i lines ++ y ∷ []) at) in
+    let front : take (i + 1) lines ≡ take i lines ++ x ∷ [] = ap (λ (n : ℕ). take n lines) (add-one i) ∙ (take-suc lines i x less ∙ ap (λ (y : ℕ × Setup). take i lines ++ y ∷ []) at) in
     let same : unnumbered (seen_lines (take (i + 1) lines)) ≡ unnumbered (seen_lines (take i lines)) ++ setup_seen x.1 ∷ [] =
     ap (λ (l : List (ℕ × Setup)). unnumbered (seen_lines l)) front
     ∙ (ap unnumbered (map-append seen_line (take i lines) (x ∷ [])) ∙ map-append number_off (seen_lines (take i lines)) (seen_line x ∷ [])) in
