@@ -36,6 +36,7 @@ pub use accounts::{accounts_end_as_trails, accounts_grow};
 pub use action::{ActorCall, ActorReply, JobAction};
 pub use actor::{Actor, ActorAction};
 pub use begin::Begun;
+pub use bytes::raw_bytes;
 pub use collecting::CollectingJob;
 pub use creating::CreatingJob;
 pub use forge::ForgeJob;
