@@ -1,8 +1,8 @@
 //! The program `lr_smallscope`: every sequence of four or five calls on a depot over three roots and two images.
 //!
 //! From each of some starts it makes all sequences of up to so many calls by two callers, of which one store call may
-//! fail, with and without effect. After each call it judges the view and the store by rules of its own, and starts a
-//! depot on the store again. A sequence that comes to a state seen before isn't made longer, and calls that are refused
+//! fail, with and without effect. After each call it judges the view and the store by rules of its own, counts the store
+//! calls, of which there is one at most, and starts a depot on the store again. A sequence that comes to a state seen before isn't made longer, and calls that are refused
 //! are made one after another in one run. For each start it prints how many states and how many different stores it
 //! saw, and how many runs it made.
 //!

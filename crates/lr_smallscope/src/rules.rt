@@ -31,6 +31,8 @@ pub enum Broken {
     Start,
     /// A refused call changed something.
     Changed,
+    /// A call asked the store more than once.
+    Asked,
 }
 
 /// The greatest root that is there, or 0.

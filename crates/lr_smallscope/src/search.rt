@@ -124,7 +124,21 @@ impl Search {
         Ok(calls)
     }
 
-    // Makes a sequence with one store call that fails.
+    // A call made no more than one store call after so many.
+    fn check_asked(
+        &mut self,
+        alloc: Global,
+        before: u64,
+        calls: u64,
+        path: &[Move],
+    ) -> Result<(), ScopeError> {
+        if calls > before.saturating_add(1) {
+            return self.refuse(alloc, Broken::Asked, path);
+        }
+        Ok(())
+    }
+
+    // Makes a sequence with one store call that fails, which is its last one.
     fn attempt(
         &mut self,
         alloc: Global,
@@ -134,8 +148,12 @@ impl Search {
     ) -> Result<(), ScopeError> {
         match Trial::begin(alloc, scope, &path, failure)? {
             Ok(trial) => {
-                self.finish(alloc, scope, trial, path, failure)?;
-                Ok(())
+                let made = path.to_vec(alloc)?;
+                let calls = self.finish(alloc, scope, trial, path, failure)?;
+                if failure.at == 0 {
+                    return Ok(());
+                }
+                self.check_asked(alloc, failure.at - 1, calls, &made)
             }
             Err(broken) => self.refuse(alloc, broken, &path),
         }
@@ -153,6 +171,8 @@ impl Search {
     ) -> Result<(), ScopeError> {
         let path = longer(alloc, &node.path, step)?;
         let calls = self.finish(alloc, scope, trial, path, node.failure)?;
+        let path = longer(alloc, &node.path, step)?;
+        self.check_asked(alloc, node.calls, calls, &path)?;
         if node.failure.at > 0 || calls <= node.calls {
             return Ok(());
         }
