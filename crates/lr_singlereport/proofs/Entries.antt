@@ -7,7 +7,7 @@ use Rattle.std.proofs.lemmas.Grind.{flat_map-append}
 use Rattle.lr_device.specs.PlainDevice.{Answered}
 use Rattle.lr_device.specs.Machine.{LogEntry, answered, history}
 use Rattle.lr_device.proofs.Public.{history_push}
-use Rattle.lr_report.specs.Report.{entry_text, results_text, result_text}
+use Rattle.lr_singlereport.specs.Report.{entry_text, results_text, result_text}
 
 -- The history up to an entry, and the entry's call.
 pub history_more : (log : List LogEntry) (at : ℕ) (e : LogEntry) → at < length log → slice_get log at ≡ Some e → history (take (at + 1) log) ≡ history (take at log) ++ answered e.caller e.call e.reply

@@ -2,7 +2,7 @@
 ghost use Rattle.std.specs.Prelude.{◌≡◌, ◌++◌, ◌+◌, ◌^◌, ◌<◌, ◌≤◌, OnOk, IfOk, decimal, length};
 ghost use Rattle.std.specs.List.{flat_map};
 ghost use Rattle.lr_device.specs.Machine.{answered, history};
-ghost use Rattle.lr_report.specs.Report.{call_word, call_text, reply_text, entry_text, result_text, results_text, device_line, device_part, actor_part, report_text};
+ghost use Rattle.lr_singlereport.specs.Report.{call_word, call_text, reply_text, entry_text, result_text, results_text, device_line, device_part, actor_part, report_text};
 
 use crate::run::Run;
 use lr_device::{Device, DeviceAnswer, DeviceCall, DeviceNoted, DeviceReply, answered};
