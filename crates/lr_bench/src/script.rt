@@ -5,7 +5,7 @@ use crate::error::BenchError;
 use crate::task::{Work, Worked};
 use lr_io::{MemSink, MemSource};
 use lr_origin::MemOrigin;
-use lr_report::{Run, report};
+use lr_singlereport::{Run, report};
 use lr_single::Script;
 use lr_text::{put_number, put_run};
 use lr_top::{Outcome, RunRecord, top};

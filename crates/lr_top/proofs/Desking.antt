@@ -1,7 +1,7 @@
 -- what the answer to a command says of its status
 use Rattle.std.proofs.Common.{◌≡◌, ◌≢◌, ℕ, List, [], Bool, true, false, IsTrue, refl, sym, ap, ◌∙◌, subst, arith}
 use Rattle.lr_spec.specs.Rose.{Rose}
-use Rattle.lr_report.specs.declared.run.Run.{Run}
+use Rattle.lr_singlereport.specs.declared.run.Run.{Run}
 use Rattle.lr_depot.specs.Left.{Left}
 use Rattle.lr_desk.specs.declared.outcome.Outcome.{Outcome}
 use Rattle.lr_desk.specs.declared.outcome.Outcome.TheVariants.{Done, Usage, ReadFault, WriteFault, OriginFault, Memory, Refused, Foreign, Spoiled, TooMany}

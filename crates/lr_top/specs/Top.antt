@@ -6,8 +6,8 @@ use Rattle.lr_single.specs.Grammar.{Spells, FirstOutside}
 use Rattle.lr_depot.specs.Machine.{LogEntry}
 use Rattle.lr_depot.specs.Left.{Left}
 use Rattle.lr_device.specs.Machine.{history}
-use Rattle.lr_report.specs.Report.{report_text}
-use Rattle.lr_report.specs.declared.run.Run.{Run}
+use Rattle.lr_singlereport.specs.Report.{report_text}
+use Rattle.lr_singlereport.specs.declared.run.Run.{Run}
 use Rattle.lr_top.specs.declared.outcome.RunRecord.{RunRecord}
 use Rattle.lr_top.specs.declared.outcome.RunRecord.TheVariants as record_of
 

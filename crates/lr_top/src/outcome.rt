@@ -2,7 +2,7 @@
 use lr_depot::DepotLog;
 use lr_io::Line;
 use lr_origin::Origin;
-use lr_report::Run;
+use lr_singlereport::Run;
 
 /// What a command left beside its output.
 #[derive(Drop)]

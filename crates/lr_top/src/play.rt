@@ -13,7 +13,7 @@ use crate::outcome::RunRecord;
 use crate::serve::serve;
 use itoa::Buffer;
 use lr_io::{Line, Sink, SinkError, Source, write_all};
-use lr_report::{Run, report};
+use lr_singlereport::{Run, report};
 use std::alloc::Global;
 
 /// What `play` gives back.

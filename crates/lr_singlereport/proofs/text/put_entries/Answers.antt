@@ -1,6 +1,6 @@
 use Rattle.std.proofs.Common.{sym, arith}
-use Rattle.lr_report.proofs.Entries.{entries_more}
-use Rattle.lr_report.proofs.text.put_entries.Goals as goal
+use Rattle.lr_singlereport.proofs.Entries.{entries_more}
+use Rattle.lr_singlereport.proofs.text.put_entries.Goals as goal
 
 pub loop-at-preserved : goal.loop-at-preserved
 loop-at-preserved c =

@@ -1,6 +1,6 @@
 use Rattle.std.proofs.Common.{sym, arith}
-use Rattle.lr_report.proofs.Entries.{results_more}
-use Rattle.lr_report.proofs.text.put_results.Goals as goal
+use Rattle.lr_singlereport.proofs.Entries.{results_more}
+use Rattle.lr_singlereport.proofs.text.put_results.Goals as goal
 
 pub loop-at-preserved : goal.loop-at-preserved
 loop-at-preserved c =
