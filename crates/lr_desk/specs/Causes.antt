@@ -25,6 +25,7 @@ use Rattle.lr_desk.specs.declared.words.Command.TheVariants as command
 use Rattle.lr_desk.specs.Words.{AreWords, AreOfCreation, IsCommand, words_of}
 use Rattle.lr_desk.specs.Outcome.{status_of, line_of}
 use Rattle.lr_desk.specs.Ends.{outcome_of, setting, HasRun}
+use Rattle.lr_desk.specs.Made.{HasLeft}
 
 -- What a command met: its words, the objects that the store told, the bytes that the source told, the counts of faults before and after,
 -- and the depot's log.
@@ -145,7 +146,7 @@ pub record IsAnswered (m : Met) (status : ℕ) (line : List ℕ) : Type 0 where
   pub complete : Completes m outcome
 
 -- A command that ran: the depot started over the store and ended with what is handed back; its log is the command's walk, and what
--- was written is the command's text or a front of it.
+-- was written is the command's text or a front of it. A creation that was done left its image there.
 pub record HasCommanded {O : Type 0} (objects : O → Option Objects) (faults : O → ℕ) (words : List (List ℕ)) (before : O) (source source_left : Option (List ℕ)) (written : Option (List ℕ)) (after : O) (written_after : Option (List ℕ)) (left : Left) (status : ℕ) : Type 0 where
   pub first : Seen O
   pub last : Seen O
@@ -159,3 +160,4 @@ pub record HasCommanded {O : Type 0} (objects : O → Option Objects) (faults : 
   pub outcome : Outcome
   pub gave : status ≡ status_of outcome
   pub ran : HasRun command (setting objects first source source_left) left.log written written_after outcome
+  pub images : outcome ≡ Done → HasLeft command (setting objects first source source_left) (objects before) left.log written written_after (objects after)

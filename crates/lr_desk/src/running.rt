@@ -12,6 +12,7 @@ ghost use Rattle.lr_desk.specs.Ends.{Collected, Moved, Made, WasRead, setting, H
 
 use crate::collecting::collect;
 use crate::ends::{of_collection, of_creation, of_error, of_migration};
+use crate::laws::done_images;
 use crate::moving::migrate;
 use crate::outcome::Outcome;
 use crate::roots::view_text;
@@ -264,6 +265,7 @@ pub fn commands<O: Origin, I: Source, W: Sink>(
         Ok(depot) => depot,
         Err(error) => return failed(alloc, error),
     };
+    done_images();
     let outcome = run(alloc, &mut depot, source, sink, command);
     let (origin, log, _catalog) = depot.end();
     Done {

@@ -50,7 +50,7 @@ returns-clause-commanded g c = λ _.
     (map (string_bytes {Z = Global}) c.args.words.now) (g.I.Source.faults c.args.source.now) (g.I.Source.faults c.run-outcome.new.source) (g.W.Sink.faults c.args.sink.now) (g.W.Sink.faults c.run-outcome.new.sink) c.in-Some.command
     (g.I.Source.left c.args.source.now) (g.I.Source.left c.run-outcome.new.source) (g.W.Sink.written c.args.sink.now) (g.W.Sink.written c.run-outcome.new.sink)
     c.run-outcome.result c.status.result c.line.result c.in-Ok.ensures.started c.run-outcome.ensures.start c.end-origin.ensures.ended c.in-Some.ensures.found.0 c.in-Some.ensures.found.1 c.run-outcome.ensures.ran
-    c.status.ensures
+    c.done_images.ensures.made c.status.ensures
 
 pub returns-in_default-clause-unstarted : goal.returns-in_default-clause-unstarted
 returns-in_default-clause-unstarted g c = λ _.
