@@ -6,7 +6,7 @@ use Rattle.lr_origin.specs.Objects.{Objects}
 use Rattle.lr_roots.specs.Names.{IsOneOf}
 use Rattle.lr_opening.specs.declared.cause.StartCause.{StartCause}
 use Rattle.lr_opening.specs.declared.cause.StartCause.TheVariants as cause
-use Rattle.lr_opening.specs.Cause.{IsRead}
+use Rattle.lr_opening.specs.Cause.{IsRead, IsCause}
 use Rattle.lr_opening.specs.Listing.{HasFewer, HasMany}
 use Rattle.lr_opening.specs.Store.{IsForeignKey, IsSoundStore}
 use Rattle.lr_roots.specs.Catalog.{Seen as Catalog}
@@ -100,6 +100,11 @@ cause_of (cause.Spoiled key) = Spoiled key
 cause_of (cause.Foreign key) = Foreign key
 cause_of cause.TooMany = TooMany
 cause_of cause.OutOfMemory = Memory
+
+-- No depot was started: the words are no command's, or the store wasn't opened, for a cause that says how the command ended.
+abbrev pub IsUnstarted : List (List ℕ) → Option Objects → ℕ → ℕ → ℕ → Type 0
+IsUnstarted words told before after status =
+    ¬ (AreWords words) ⊎ ((c : StartCause) × IsCause told before after c × (status ≡ status_of (cause_of c)))
 
 -- how a store with a foreign key ends a command
 abbrev pub IsForeignEnd : Objects → Outcome → Type 0
