@@ -26,7 +26,7 @@ use Rattle.lr_depot.specs.Machine.{LogEntry, DepotStep, Enters, IsTold, after_en
 use Rattle.lr_depot.specs.Store.{StoreStep, LeadsTo, tells_fault, is_fault, fault_count, Covers}
 use Rattle.lr_depot.specs.Left.{Left}
 use Rattle.lr_roots.specs.Catalog.{Seen as Catalog}
-use Rattle.lr_depot.specs.Depot.{Seen, IsStart, first_state, state, IsStarted, IsEnded}
+use Rattle.lr_depot.specs.Depot.{Seen, IsStart, LedTo, first_state, state, IsStarted, IsEnded}
 use Rattle.lr_depot.proofs.Followed.{start_follows, leads_follows, never_spoiled}
 use Rattle.lr_depot.proofs.Logged.{leads_run}
 use Rattle.lr_depot.proofs.Moved.{run_safe}
@@ -35,10 +35,12 @@ use Rattle.lr_desk.specs.declared.outcome.Refusal.{Refusal}
 use Rattle.lr_desk.specs.declared.outcome.Outcome.{Outcome}
 use Rattle.lr_desk.specs.declared.outcome.Outcome.TheVariants.{Done, Usage, ReadFault, WriteFault, OriginFault, Memory, Refused, Foreign, Spoiled, TooMany}
 use Rattle.lr_desk.specs.declared.words.Command.{Command}
+use Rattle.lr_desk.specs.declared.words.Command.TheVariants as command
 use Rattle.lr_desk.specs.Words.{AreWords, IsCommand, words_of}
 use Rattle.lr_desk.specs.Outcome.{status_of, line_of}
 use Rattle.lr_desk.specs.Ends.{outcome_of, Setting, setting, HasWalked, IsWritten, IsFinish, HasRun, IsWalkOutcome}
 use Rattle.lr_desk.specs.Causes.{Met, IsDepots, Tells, IsTooLong, Refuses, Comes, cause_of, IsForeignEnd, IsManyEnd, IsExact, IsComplete, Completes, IsAnswered, HasCommanded}
+use Rattle.lr_desk.specs.Made.{CreationsLeaveImages, HasLeft}
 use Rattle.lr_desk.proofs.Walking.{walked_kind}
 use Rattle.lr_desk.proofs.Commanding.{walked_tells, walked_is}
 use Rattle.lr_desk.proofs.Causing.{walked_sealed, walked_long}
@@ -345,5 +347,40 @@ module _ {O : Type 0} (objects : O → Option Objects) (faults : O → ℕ) (ori
       (λ s. rose_by (faults origin) left.log (faults after) covers_left (subst (Tells left.log) s (run_tells met c (setting objects first source source_left) written written_after e ran_left (subst IsDepots (sym s) tt))))
       read sink gave says
 
-  pub has_commanded : status ≡ status_of e → HasCommanded objects faults words origin source source_left written after written_after left status
-  has_commanded gave = record { first = first; last = last; catalog = catalog; started = started; same = same; ended = ended; command = c; is = is; worded = worded; outcome = e; gave = gave; ran = ran_left }
+  -- the log leads from the objects at the start to those that are handed back
+  led_left : Told (objects origin) (λ os. (n : Objects) × (objects after ≡ Some n) × LedTo first.start os left.log n)
+  led_left os t =
+      let told : first.start.objects ≡ Some os = started.told ∙ t in
+      let l = ended.leads os (ap (λ (s : Start). s.objects) same ∙ told) in (
+        l.0,
+        ap objects ended.store ∙ l.1,
+        record {
+          begun = started.start;
+          mirrors = started.start.mirrors os told;
+          leads = subst (λ (s : Start). LeadsTo (first_state s) os left.log l.0) same (subst (λ g. LeadsTo (first_state last.start) os g l.0) (sym ended.log) l.2);
+        },
+      )
+
+  images_left : CreationsLeaveImages → (k : Command) → HasRun k (setting objects first source source_left) left.log written written_after Done
+      → HasLeft k (setting objects first source source_left) (objects origin) left.log written written_after (objects after)
+  images_left law (command.Create image tenant) done os t chunks =
+      let l = led_left os t in
+      (l.0, l.1, law (setting objects first source source_left) os l.0 image tenant left.log written written_after l.2 chunks done)
+  images_left law k done os t chunks = let l = led_left os t in (l.0, l.1, tt)
+
+  pub has_commanded : CreationsLeaveImages → status ≡ status_of e → HasCommanded objects faults words origin source source_left written after written_after left status
+  has_commanded law gave = record {
+    first = first;
+    last = last;
+    catalog = catalog;
+    started = started;
+    same = same;
+    ended = ended;
+    command = c;
+    is = is;
+    worded = worded;
+    outcome = e;
+    gave = gave;
+    ran = ran_left;
+    images = λ done. images_left law c (subst (λ o. HasRun c (setting objects first source source_left) left.log written written_after o) done ran_left);
+  }

@@ -6,7 +6,7 @@ use Rattle.lr_origin.specs.Objects.{Objects}
 use Rattle.lr_roots.specs.Names.{IsOneOf}
 use Rattle.lr_opening.specs.declared.cause.StartCause.{StartCause}
 use Rattle.lr_opening.specs.declared.cause.StartCause.TheVariants as cause
-use Rattle.lr_opening.specs.Cause.{IsRead}
+use Rattle.lr_opening.specs.Cause.{IsRead, IsCause}
 use Rattle.lr_opening.specs.Listing.{HasFewer, HasMany}
 use Rattle.lr_opening.specs.Store.{IsForeignKey, IsSoundStore}
 use Rattle.lr_roots.specs.Catalog.{Seen as Catalog}
@@ -25,6 +25,7 @@ use Rattle.lr_desk.specs.declared.words.Command.TheVariants as command
 use Rattle.lr_desk.specs.Words.{AreWords, AreOfCreation, IsCommand, words_of}
 use Rattle.lr_desk.specs.Outcome.{status_of, line_of}
 use Rattle.lr_desk.specs.Ends.{outcome_of, setting, HasRun}
+use Rattle.lr_desk.specs.Made.{HasLeft}
 
 -- What a command met: its words, the objects that the store told, the bytes that the source told, the counts of faults before and after,
 -- and the depot's log.
@@ -100,6 +101,11 @@ cause_of (cause.Foreign key) = Foreign key
 cause_of cause.TooMany = TooMany
 cause_of cause.OutOfMemory = Memory
 
+-- No depot was started: the words are no command's, or the store wasn't opened, for a cause that says how the command ended.
+abbrev pub IsUnstarted : List (List ℕ) → Option Objects → ℕ → ℕ → ℕ → Type 0
+IsUnstarted words told before after status =
+    ¬ (AreWords words) ⊎ ((c : StartCause) × IsCause told before after c × (status ≡ status_of (cause_of c)))
+
 -- how a store with a foreign key ends a command
 abbrev pub IsForeignEnd : Objects → Outcome → Type 0
 IsForeignEnd os (Foreign key) = IsForeignKey os key.items
@@ -145,7 +151,7 @@ pub record IsAnswered (m : Met) (status : ℕ) (line : List ℕ) : Type 0 where
   pub complete : Completes m outcome
 
 -- A command that ran: the depot started over the store and ended with what is handed back; its log is the command's walk, and what
--- was written is the command's text or a front of it.
+-- was written is the command's text or a front of it. A creation that was done left its image there.
 pub record HasCommanded {O : Type 0} (objects : O → Option Objects) (faults : O → ℕ) (words : List (List ℕ)) (before : O) (source source_left : Option (List ℕ)) (written : Option (List ℕ)) (after : O) (written_after : Option (List ℕ)) (left : Left) (status : ℕ) : Type 0 where
   pub first : Seen O
   pub last : Seen O
@@ -159,3 +165,4 @@ pub record HasCommanded {O : Type 0} (objects : O → Option Objects) (faults : 
   pub outcome : Outcome
   pub gave : status ≡ status_of outcome
   pub ran : HasRun command (setting objects first source source_left) left.log written written_after outcome
+  pub images : outcome ≡ Done → HasLeft command (setting objects first source source_left) (objects before) left.log written written_after (objects after)

@@ -1,5 +1,6 @@
 -- What a command over images that was done left or wrote.
-use Rattle.std.specs.Prelude.{◌≡◌, ℕ, List, [], Option}
+use Rattle.std.specs.Prelude.{◌≡◌, ℕ, List, [], Option, Some, ⊤}
+use Rattle.lr_spec.specs.Told.{Told}
 use Rattle.lr_io.specs.Streams.{TakesAll, Appends}
 use Rattle.lr_origin.specs.Objects.{Objects}
 use Rattle.lr_opening.specs.Store.{HasChunks}
@@ -11,6 +12,7 @@ use Rattle.lr_images.specs.Drive.{joined}
 use Rattle.lr_images.specs.Made.{IsMade}
 use Rattle.lr_images.specs.Cat as cat
 use Rattle.lr_desk.specs.declared.outcome.Outcome.TheVariants.{Done}
+use Rattle.lr_desk.specs.declared.words.Command.{Command}
 use Rattle.lr_desk.specs.declared.words.Command.TheVariants as command
 use Rattle.lr_desk.specs.Ends.{Setting, text_made, IsReadText, HasRun}
 
@@ -29,6 +31,15 @@ abbrev pub CreationsLeaveImages : Type 0
 CreationsLeaveImages =
     (s : Setting) (m n : Objects) (image tenant : List ℕ) (log : List LogEntry) (before after : Option (List ℕ))
     → LedTo s.start m log n → HasChunks m → HasRun (command.Create image tenant) s log before after Done → LeavesImage s n image tenant log before after
+
+-- What a command that was done left over images: of a creation the image, and of others nothing is said.
+abbrev pub Leaves : Command → Setting → Objects → List LogEntry → Option (List ℕ) → Option (List ℕ) → Type 0
+Leaves (command.Create image tenant) s n log before after = LeavesImage s n image tenant log before after
+Leaves c s n log before after = ⊤
+
+-- It left this in a store that told its objects and was sound, from these told objects to those.
+abbrev pub HasLeft : Command → Setting → Option Objects → List LogEntry → Option (List ℕ) → Option (List ℕ) → Option Objects → Type 0
+HasLeft c s told log before after told_after = Told told (λ m. HasChunks m → (n : Objects) × (told_after ≡ Some n) × Leaves c s n log before after)
 
 -- The bytes that were written are those of the image: what its manifest denotes, cut to the raw length.
 pub record WritesImage (s : Setting) (image tenant : List ℕ) (before after : Option (List ℕ)) : Type 0 where

@@ -6,12 +6,13 @@ ghost use Rattle.lr_desk.specs.declared.outcome.Outcome.{Outcome as AnyOutcome};
 ghost use Rattle.lr_desk.specs.declared.outcome.Outcome.TheVariants as outcome;
 ghost use Rattle.lr_desk.specs.declared.words.Command.TheVariants as command;
 ghost use Rattle.lr_desk.specs.Outcome.{status_of, line_of};
-ghost use Rattle.lr_desk.specs.Causes.{cause_of, IsAnswered, HasCommanded};
+ghost use Rattle.lr_desk.specs.Causes.{cause_of, IsAnswered, IsUnstarted, HasCommanded};
 ghost use Rattle.lr_desk.specs.Words.{AreOfCreation, words_of};
 ghost use Rattle.lr_desk.specs.Ends.{Collected, Moved, Made, WasRead, setting, HasWalked, HasRun, Yields, IsWritten};
 
 use crate::collecting::collect;
 use crate::ends::{of_collection, of_creation, of_error, of_migration};
+use crate::laws::done_images;
 use crate::moving::migrate;
 use crate::outcome::Outcome;
 use crate::roots::view_text;
@@ -253,6 +254,7 @@ pub fn commands<O: Origin, I: Source, W: Sink>(
     ensures commanded { IsTrue result.started → HasCommanded O.objects O.faults (map string_bytes words.now) origin (I.left source.old) (I.left source.new) (W.written sink.old) result.origin (W.written sink.new) result.log result.status }
     // Without a depot nothing was done.
     ensures unstarted { result.started ≡ false → (result.log.log ≡ []) × (O.objects result.origin ≡ O.objects origin) × (sink.new ≡ sink.old) × (source.new ≡ source.old) × (result.status ≢ 0) × (result.status ≢ 5) }
+    ensures why { result.started ≡ false → IsUnstarted (map string_bytes words.now) (O.objects origin) (O.faults origin) (O.faults result.origin) result.status }
     ensures unread { ¬ (AreOfCreation (map string_bytes words.now)) → source.new ≡ source.old }
     ensures never_falls { O.faults origin ≤ O.faults result.origin }
     ensures source_never_falls { I.faults source.old ≤ I.faults source.new }
@@ -264,6 +266,7 @@ pub fn commands<O: Origin, I: Source, W: Sink>(
         Ok(depot) => depot,
         Err(error) => return failed(alloc, error),
     };
+    done_images();
     let outcome = run(alloc, &mut depot, source, sink, command);
     let (origin, log, _catalog) = depot.end();
     Done {

@@ -1,7 +1,7 @@
-//! Worked scripts through the top call.
+//! Worked scripts through the top call, and images that are created and read back.
 ghost use Rattle.std.specs.Prelude.{◌≡◌};
 
-use crate::top;
+use crate::{Outcome, RunRecord, top};
 use lr_io::{MemSink, MemSource};
 use lr_origin::MemOrigin;
 use std::alloc::Global;
@@ -441,6 +441,75 @@ fn bytes_of_many_runs_print_as_their_digest(rt: HostRuntime) -> Result<(), Fail>
         let answer = play(rt.alloc(), &script, None, None)?;
         assert_eq!(rt; answer.status, 0);
         assert_eq!(rt; answer.written.as_slice(), report.as_slice());
+    }
+    Ok(())
+}
+
+const SALT: &str = "1111111111111111111111111111111111111111111111111111111111111111";
+
+const TENANT: &str = "aaaaaaaaaaaaaaaaaaaaaaaaaaaaaaaaaaaaaaaaaaaaaaaaaaaaaaaaaaaaaaaa";
+
+// Lengths at the edges of pages.
+const PAGES: &[usize] = &[0, 1, 4095, 4096, 4097];
+
+// Lengths at the edges of chunks.
+const CHUNKS: &[usize] = &[524_288, 524_289, 1_048_576, 1_048_577];
+
+// A command over a store in memory: what it left, and what it wrote.
+fn does(
+    alloc: Global,
+    command: &[&str],
+    input: Vec<u8>,
+    origin: MemOrigin,
+) -> Result<(Outcome<MemOrigin>, Vec<u8>), Fail> {
+    let mut words = Vec::new(alloc);
+    for word in command {
+        words.push(String::from_str(alloc, *word)?)?;
+    }
+    let mut source = MemSource::new(input, Vec::new(alloc));
+    let mut sink = MemSink::new(alloc, Vec::new(alloc));
+    let outcome = top(alloc, &words, &mut source, &mut sink, origin);
+    let written = Vec::from_slice(alloc, sink.bytes())?;
+    Ok((outcome, written))
+}
+
+// Creates an image of so many bytes, and reads it back: whether the bytes are the same.
+fn comes_back(alloc: Global, len: usize) -> Result<bool, Fail> {
+    let mut raw = Vec::new(alloc);
+    for at in 0..len {
+        raw.push((at % 251) as u8)?;
+    }
+    let none = Vec::new(alloc);
+    let (rotated, _) = does(alloc, &["rotate", SALT], none, MemOrigin::new(alloc))?;
+    let (created, text) = does(
+        alloc,
+        &["create", "a", TENANT],
+        raw.clone()?,
+        rotated.origin,
+    )?;
+    let none = Vec::new(alloc);
+    let (read, bytes) = does(alloc, &["cat", "a", TENANT], none, created.origin)?;
+    Ok(
+        created.status == 0
+            && text.as_slice() == b"created 1\n".as_slice()
+            && read.status == 0
+            && matches!(read.run, RunRecord::Command(_))
+            && bytes == raw,
+    )
+}
+
+#[test]
+fn images_of_few_pages_come_back(rt: HostRuntime) -> Result<(), Fail> {
+    for len in PAGES {
+        assert!(rt; comes_back(rt.alloc(), *len)?, "{len}");
+    }
+    Ok(())
+}
+
+#[test]
+fn images_of_some_chunks_come_back(rt: HostRuntime) -> Result<(), Fail> {
+    for len in CHUNKS {
+        assert!(rt; comes_back(rt.alloc(), *len)?, "{len}");
     }
     Ok(())
 }

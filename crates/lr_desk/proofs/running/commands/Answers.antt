@@ -1,4 +1,4 @@
-use Rattle.std.proofs.Common.{◌≡◌, ◌≢◌, ℕ, Global, map, refl, ap, sym, subst, ◌∙◌, arith}
+use Rattle.std.proofs.Common.{◌≡◌, ◌≢◌, ℕ, Global, map, refl, ap, sym, subst, ◌∙◌, inl, inr, arith}
 use Rattle.std.specs.String.{string_bytes}
 use Rattle.lr_opening.specs.Cause.{IsCause}
 use Rattle.lr_desk.proofs.Answering.{cause_status, answered_usage, answered_by_cause, answered_started, has_commanded}
@@ -50,7 +50,7 @@ returns-clause-commanded g c = λ _.
     (map (string_bytes {Z = Global}) c.args.words.now) (g.I.Source.faults c.args.source.now) (g.I.Source.faults c.run-outcome.new.source) (g.W.Sink.faults c.args.sink.now) (g.W.Sink.faults c.run-outcome.new.sink) c.in-Some.command
     (g.I.Source.left c.args.source.now) (g.I.Source.left c.run-outcome.new.source) (g.W.Sink.written c.args.sink.now) (g.W.Sink.written c.run-outcome.new.sink)
     c.run-outcome.result c.status.result c.line.result c.in-Ok.ensures.started c.run-outcome.ensures.start c.end-origin.ensures.ended c.in-Some.ensures.found.0 c.in-Some.ensures.found.1 c.run-outcome.ensures.ran
-    c.status.ensures
+    c.done_images.ensures.made c.status.ensures
 
 pub returns-in_default-clause-unstarted : goal.returns-in_default-clause-unstarted
 returns-in_default-clause-unstarted g c = λ _.
@@ -60,6 +60,13 @@ pub returns-in-Err-clause-unstarted : goal.returns-in-Err-clause-unstarted
 returns-in-Err-clause-unstarted g c = λ _.
     let status = cause_status c.in-Err.error.cause in
     (c.failed.ensures.log, ap g.O.Origin.objects c.failed.ensures.origin ∙ c.in-Err.ensures.back.0, refl, refl, λ e. status.0 (sym c.failed.ensures.status ∙ e), λ e. status.1 (sym c.failed.ensures.status ∙ e))
+
+pub returns-in_default-clause-why : goal.returns-in_default-clause-why
+returns-in_default-clause-why g c = λ _. inl c.in_default.ensures.only
+
+pub returns-in-Err-clause-why : goal.returns-in-Err-clause-why
+returns-in-Err-clause-why g c = λ _.
+    inr (c.in-Err.error.cause, subst (λ n. IsCause (g.O.Origin.objects c.args.origin) (g.O.Origin.faults c.args.origin) n c.in-Err.error.cause) (sym (ap g.O.Origin.faults c.failed.ensures.origin)) c.in-Err.ensures.cause, c.failed.ensures.status)
 
 pub returns-clause-unread : goal.returns-clause-unread
 returns-clause-unread g c = λ other. c.run-outcome.ensures.unread (λ are. other (are.0, are.1, c.in-Some.ensures.found.1 ∙ are.2))

@@ -3,7 +3,7 @@ use Rattle.lr_top.proofs.Desking.{not_three, rose_at_four, rose_at_five, no_run,
 use Rattle.lr_top.proofs.choose.top.Goals as goal
 
 pub returns-then-is_play-clause-commanded : goal.returns-then-is_play-clause-commanded
-returns-then-is_play-clause-commanded g c = no_command c.play-played.result.run _ c.play-played.ensures.no_command
+returns-then-is_play-clause-commanded g c = no_command c.play.result.run _ c.play.ensures.no_command
 
 pub returns-clause-refused : goal.returns-clause-refused
 returns-clause-refused g c = λ e. absurd (not_three _ c.desk.result.status c.desk.result.line c.desk.ensures.answered e)

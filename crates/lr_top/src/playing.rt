@@ -16,7 +16,7 @@ use lr_io::{Line, Sink, SinkError, Source, write_all};
 use lr_singlereport::{Run, report};
 use std::alloc::Global;
 
-/// What `play` gives back.
+/// What a script that is played gives back.
 #[derive(Drop)]
 pub(crate) struct Played {
     pub(crate) status: u8,
@@ -80,7 +80,7 @@ fn writes<W: Sink>(alloc: Global, sink: &mut W, run: Run) -> Played
 }
 
 /// Reads a script, runs it and writes its report.
-pub(crate) fn play<I: Source, W: Sink>(alloc: Global, source: &mut I, sink: &mut W) -> Played
+pub(crate) fn play_script<I: Source, W: Sink>(alloc: Global, source: &mut I, sink: &mut W) -> Played
     ensures known { result.status ≢ 2 }
     ensures line { IsStatus result.status result.line }
     ensures refused { result.status ≡ 3 → (n : ℕ) × (result.line ≡ refusal n) × IsOutsideAt (I.left source.old) n }
