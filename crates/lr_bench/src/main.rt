@@ -12,6 +12,7 @@ mod cipher;
 mod digest;
 mod error;
 mod format;
+mod image;
 mod jobs;
 mod script;
 mod stripe;

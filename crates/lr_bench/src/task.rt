@@ -5,6 +5,7 @@ use crate::cipher::{Counting, Sealing};
 use crate::digest::{Copying, Digesting};
 use crate::error::BenchError;
 use crate::format::{Chunking, Printing, Spelling};
+use crate::image::{Creating, Restoring};
 use crate::jobs::Reading;
 use crate::script::{Parsing, Playing, Reporting};
 use crate::stripe::{Encoding, Rebuilding};
@@ -72,6 +73,8 @@ pub enum Kind {
     Counter,
     Gcm,
     Seal,
+    Create,
+    Cat,
     ParseManifest,
     PrintManifest,
     Encode,
@@ -100,6 +103,8 @@ pub fn run<T: Threads + Wait + Sync>(
         Kind::Counter => measure::<Counting>(rt, size),
         Kind::Gcm => measure::<Sealing>(rt, size),
         Kind::Seal => measure::<Chunking>(rt, size),
+        Kind::Create => measure::<Creating>(rt, size),
+        Kind::Cat => measure::<Restoring>(rt, size),
         Kind::ParseManifest => measure::<Spelling>(rt, size),
         Kind::PrintManifest => measure::<Printing>(rt, size),
         Kind::Encode => measure::<Encoding>(rt, size),
@@ -119,8 +124,8 @@ pub struct Task {
 }
 
 /// The tasks. The sizes of `script`, `report` and `play` count reads, that of `jobs` counts jobs, those of `sha256`, `copy`,
-/// `ctr` and `gcm` bytes, those from `call` on calls, and the others chunks.
-pub static TASKS: [Task; 19] = [
+/// `ctr`, `gcm`, `create` and `cat` bytes, those from `call` on calls, and the others chunks.
+pub static TASKS: [Task; 21] = [
     Task {
         name: "script",
         kind: Kind::Parse,
@@ -174,6 +179,18 @@ pub static TASKS: [Task; 19] = [
         kind: Kind::Seal,
         small: 1,
         large: 16,
+    },
+    Task {
+        name: "create",
+        kind: Kind::Create,
+        small: 5000,
+        large: 67_108_864,
+    },
+    Task {
+        name: "cat",
+        kind: Kind::Cat,
+        small: 5000,
+        large: 67_108_864,
     },
     Task {
         name: "parse",
