@@ -1,5 +1,5 @@
 -- The names of callers by their numbers, and the names that the lines of a script declare.
-use Rattle.std.proofs.Common.{◌≡◌, ◌≢◌, ◌+◌, ◌-◌, ℕ, zero, suc, List, [], ◌∷◌, ◌++◌, map, get_or, length, take, refl, sym, ap, ◌∙◌, arith}
+use Rattle.std.proofs.Common.{◌≡◌, ◌≢◌, ◌-◌, ℕ, zero, suc, List, [], ◌∷◌, map, get_or, refl, sym, ap, arith}
 use Rattle.std.specs.List.{flat_map}
 use Rattle.lr_script.specs.Seen.{SetupSeen, JobSeen, setup_seen, actors_seen}
 use Rattle.lr_script.specs.declared.script.Setup.{Setup}

@@ -1,5 +1,5 @@
 -- The report of a run: the devices with their histories, the actors with the results of their jobs, and the depot.
-use Rattle.std.specs.Prelude.{ℕ, List, [], ◌∷◌, ◌++◌, Bool, true, false, ◌&&◌, ◌==◌, codes, decimal, zip, count_by}
+use Rattle.std.specs.Prelude.{ℕ, List, ◌++◌, Bool, true, false, ◌&&◌, ◌==◌, codes, decimal, zip, count_by}
 use Rattle.std.specs.List.{flat_map, enumerate_from}
 use Rattle.lr_text.specs.Bytes.{bytes_text}
 use Rattle.lr_origin.specs.Text.{key_text}

@@ -1,7 +1,6 @@
 -- What the lines of roots are, from what a catalog says of its view.
-use Rattle.std.proofs.Common.{◌≡◌, ◌≤◌, ◌<◌, ◌+◌, ℕ, zero, suc, List, [], ◌∷◌, ◌++◌, map, length, Option, Some, None, Bool, true, false, ◌||◌, cond, ltb, refl, sym, ap, subst, ◌∙◌, inl, inr, arith, append_assoc, append-nil, add-one}
-use mathlib.Core.Logic.{◌⊎◌}
-use Rattle.std.specs.Prelude.{T, ◌&&◌, is_some, count_by, filter}
+use Rattle.std.proofs.Common.{◌≡◌, ◌≤◌, ◌<◌, ◌+◌, ℕ, List, [], ◌∷◌, ◌++◌, map, length, Some, None, Bool, true, false, ◌||◌, cond, ltb, refl, sym, ap, subst, ◌∙◌, inl, inr, arith, append_assoc, append-nil, add-one}
+use Rattle.std.specs.Prelude.{T, ◌&&◌, is_some, filter}
 use Rattle.std.specs.List.{list_any}
 use Rattle.std.specs.Ordering.{eq_by_cmp, is_lt, is_eq}
 use Rattle.std.specs.declared.cmp.Ordering.{Ordering}
@@ -9,7 +8,7 @@ use Rattle.std.specs.declared.cmp.Ordering.TheVariants.{Less, Equal, Greater}
 use Rattle.std.specs.FinMap as fin
 use Rattle.std.specs.FinMap.{entries_sorted, contains_key-keys}
 use Rattle.std.specs.FinMap.Entries.{below_all, is_sorted}
-use Rattle.std.proofs.lemmas.Bool.{cases_Bool, false≢true}
+use Rattle.std.proofs.lemmas.Bool.{false≢true}
 use Rattle.std.proofs.lemmas.List.Sums.{length-filter}
 use Rattle.lr_origin.specs.Kind.{kind_cmp}
 use Rattle.lr_origin.specs.declared.key.KeyKind.{KeyKind}
@@ -17,7 +16,7 @@ use Rattle.lr_origin.specs.declared.key.KeyKind.TheVariants.{Root, Expired, Dele
 use Rattle.lr_roots.specs.View.{View, Held, Has, Lacks}
 use Rattle.lr_roots.specs.declared.state.RootState.{RootState}
 use Rattle.lr_roots.specs.declared.state.RootState.TheVariants as state
-use Rattle.lr_roots.specs.Roots.{IsRootState, IsGreatest}
+use Rattle.lr_roots.specs.Roots.{IsRootState}
 use Rattle.lr_roots.specs.Names.{IsOneOf, AreApart, AreMany, IsManifestOf, IsChunkOf}
 use Rattle.lr_roots.proofs.Aside.{itself}
 use Rattle.lr_roots.proofs.Ordered.{listed}

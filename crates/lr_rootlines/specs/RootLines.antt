@@ -1,5 +1,5 @@
 -- The lines of the roots of a view.
-use Rattle.std.specs.Prelude.{ℕ, zero, suc, ◌==◌, nat_lt, List, [], ◌++◌, Bool, true, false, codes, decimal, count_by, if◌then◌else◌}
+use Rattle.std.specs.Prelude.{ℕ, zero, suc, ◌==◌, nat_lt, List, [], ◌++◌, Bool, false, codes, decimal, count_by, if◌then◌else◌}
 use Rattle.std.specs.List.{list_any}
 use Rattle.std.specs.FinMap as map
 use Rattle.lr_origin.specs.declared.key.KeyKind.{KeyKind}

@@ -16,8 +16,8 @@ use lr_device::{
 };
 use lr_object::Object;
 use lr_overlay::Overlay;
-use lr_singlereport::Run;
 use lr_single::{Job, Script};
+use lr_singlereport::Run;
 use lr_spec::OutOfMemory;
 use std::alloc::Global;
 use std::sync::Arc;

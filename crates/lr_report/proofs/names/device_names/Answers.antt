@@ -1,4 +1,4 @@
-use Rattle.std.proofs.Common.{◌≡◌, ◌++◌, ℕ, List, [], take, ap, sym, ◌∙◌}
+use Rattle.std.proofs.Common.{◌++◌, ℕ, List, [], take, ap, sym, ◌∙◌}
 use Rattle.std.specs.List.{flat_map}
 use Rattle.lr_script.specs.Seen.{ScriptSeen, setup_seen}
 use Rattle.lr_script.specs.declared.script.Setup.{Setup}

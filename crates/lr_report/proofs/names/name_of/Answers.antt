@@ -1,4 +1,4 @@
-use Rattle.std.proofs.Common.{◌≡◌, ◌-◌, ℕ, List, [], get_or, sym, ◌∙◌}
+use Rattle.std.proofs.Common.{◌-◌, [], sym, ◌∙◌}
 use Rattle.std.proofs.lemmas.List.{get_or_past}
 use Rattle.lr_report.proofs.Naming.{name_at, name_none}
 use Rattle.lr_report.proofs.names.name_of.Goals as goal
