@@ -1,6 +1,8 @@
 //! A thousand made scripts.
-use crate::made::script_of;
+use crate::made::{SETUP, script_of};
 use crate::plain::is_legal;
+use itoa::Buffer;
+use lr_actors::ActorState;
 use lr_gen::fill;
 use lr_io::{MemSink, MemSource};
 use lr_origin::{FuseOrigin, MemOrigin, Origin};
@@ -64,6 +66,50 @@ fn plays(rt: HostRuntime, from: u64, to: u64) -> Result<(), Fail> {
         }
     }
     assert!(rt; calls > to - from, "{calls}");
+    Ok(())
+}
+
+// The lines of a partial write behind the setup lines, and of a read by another actor.
+const CRASH: &[u8] = b"actor p\nwrite d 512 512x7a\nread d 0 4096\nactor q\nread d 0 512\ncrash p ";
+
+// A script whose first actor crashes at the end of so many steps.
+fn crashing(alloc: Global, steps: u32) -> Result<Vec<u8>, Fail> {
+    let mut text = Vec::from_slice(alloc, SETUP)?;
+    text.extend_from_slice(CRASH)?;
+    let mut buffer = Buffer::new();
+    text.extend_from_slice(buffer.format(steps).as_bytes())?;
+    text.extend_from_slice(b"\n")?;
+    Ok(text)
+}
+
+// An actor crashes at each step of a write and a read, or it has ended before: each history is legal, and what was cut shows nothing.
+#[test]
+fn an_actor_crashes_at_each_step(rt: HostRuntime) -> Result<(), Fail> {
+    let alloc = rt.alloc();
+    let raw = raw_bytes(alloc)?;
+    let mut ended = 0;
+    for steps in 0..61u32 {
+        let outcome = play(alloc, crashing(alloc, steps)?, MemOrigin::new(alloc))?;
+        assert_eq!(rt; outcome.status, 0, "{steps}");
+        let RunRecord::Run(run) = &outcome.run else {
+            panic!(rt; "{steps}");
+        };
+        let (legal, calls) = are_legal(alloc, run, &raw)?;
+        assert!(rt; legal, "{steps}");
+        let Some(trail) = run.trails.first() else {
+            panic!(rt; "{steps}");
+        };
+        match trail.state {
+            ActorState::Crashed => assert!(rt; ended == 0 && calls <= 2, "{steps}"),
+            ActorState::Ended => {
+                ended += 1;
+                assert_eq!(rt; calls, 3, "{steps}");
+            }
+            ActorState::Unfinished => panic!(rt; "{steps}"),
+        }
+    }
+    // The write makes a plan, a look, five gets, a fetch, five puts, a fill and a commit; the read a plan and a commit.
+    assert_eq!(rt; ended, 61 - 17, "{ended}");
     Ok(())
 }
 
