@@ -9,6 +9,8 @@
 #![tactic(auto)]
 
 mod cipher;
+mod depot;
+mod device;
 mod digest;
 mod error;
 mod format;

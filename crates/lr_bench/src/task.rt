@@ -2,6 +2,8 @@
 ghost use Rattle.std.specs.Prelude.{◌≡◌, length, IfOk};
 
 use crate::cipher::{Counting, Sealing};
+use crate::depot::{Collecting, Moving};
+use crate::device::{CallsAfter, Listed, Loaded, LongCalls, PageReads, PageWrites};
 use crate::digest::{Copying, Digesting};
 use crate::error::BenchError;
 use crate::format::{Chunking, Printing, Spelling};
@@ -79,6 +81,18 @@ pub enum Kind {
     PrintManifest,
     Encode,
     Rebuild,
+    ReadPages,
+    WritePages,
+    LongCalls,
+    ReadListed,
+    WriteListed,
+    LongListed,
+    /// Calls of a device of which ten, 1,000 or all 16,384 pages were written before.
+    AfterTen,
+    AfterMore,
+    AfterAll,
+    Move,
+    Collect,
     Call,
     /// Calls of one shared node by so many threads.
     Turns(usize),
@@ -109,6 +123,17 @@ pub fn run<T: Threads + Wait + Sync>(
         Kind::PrintManifest => measure::<Printing>(rt, size),
         Kind::Encode => measure::<Encoding>(rt, size),
         Kind::Rebuild => measure::<Rebuilding>(rt, size),
+        Kind::ReadPages => measure::<PageReads<Loaded>>(rt, size),
+        Kind::WritePages => measure::<PageWrites<Loaded>>(rt, size),
+        Kind::LongCalls => measure::<LongCalls<Loaded>>(rt, size),
+        Kind::ReadListed => measure::<PageReads<Listed>>(rt, size),
+        Kind::WriteListed => measure::<PageWrites<Listed>>(rt, size),
+        Kind::LongListed => measure::<LongCalls<Listed>>(rt, size),
+        Kind::AfterTen => measure::<CallsAfter<10>>(rt, size),
+        Kind::AfterMore => measure::<CallsAfter<1_000>>(rt, size),
+        Kind::AfterAll => measure::<CallsAfter<16_384>>(rt, size),
+        Kind::Move => measure::<Moving>(rt, size),
+        Kind::Collect => measure::<Collecting>(rt, size),
         Kind::Call => measure::<Calling>(rt, size),
         Kind::Turns(count) => call_one(rt, threads, count, size),
         Kind::Crossing(count) => call_four(rt, threads, count, size),
@@ -124,8 +149,8 @@ pub struct Task {
 }
 
 /// The tasks. The sizes of `script`, `report` and `play` count reads, that of `jobs` counts jobs, those of `sha256`, `copy`,
-/// `ctr`, `gcm`, `create` and `cat` bytes, those from `call` on calls, and the others chunks.
-pub static TASKS: [Task; 21] = [
+/// `ctr`, `gcm`, `create` and `cat` bytes, those of `seal` to `rebuild` chunks, those of `move` and `collect` images, and the others calls.
+pub static TASKS: [Task; 34] = [
     Task {
         name: "script",
         kind: Kind::Parse,
@@ -215,6 +240,84 @@ pub static TASKS: [Task; 21] = [
         kind: Kind::Rebuild,
         small: 1,
         large: 64,
+    },
+    Task {
+        name: "read",
+        kind: Kind::ReadPages,
+        small: 20,
+        large: 16_384,
+    },
+    Task {
+        name: "read_list",
+        kind: Kind::ReadListed,
+        small: 20,
+        large: 16_384,
+    },
+    Task {
+        name: "write",
+        kind: Kind::WritePages,
+        small: 20,
+        large: 16_384,
+    },
+    Task {
+        name: "write_list",
+        kind: Kind::WriteListed,
+        small: 20,
+        large: 16_384,
+    },
+    Task {
+        name: "long",
+        kind: Kind::LongCalls,
+        small: 1,
+        large: 64,
+    },
+    Task {
+        name: "long_list",
+        kind: Kind::LongListed,
+        small: 1,
+        large: 64,
+    },
+    Task {
+        name: "after10",
+        kind: Kind::AfterTen,
+        small: 10,
+        large: 8_192,
+    },
+    Task {
+        name: "after1000",
+        kind: Kind::AfterMore,
+        small: 10,
+        large: 8_192,
+    },
+    Task {
+        name: "after16384",
+        kind: Kind::AfterAll,
+        small: 10,
+        large: 8_192,
+    },
+    Task {
+        name: "move100",
+        kind: Kind::Move,
+        small: 1,
+        large: 100,
+    },
+    Task {
+        name: "move1000",
+        kind: Kind::Move,
+        small: 2,
+        large: 1_000,
+    },
+    Task {
+        name: "collect100",
+        kind: Kind::Collect,
+        small: 1,
+        large: 100,
+    },
+    Task {
+        name: "collect1000",
+        kind: Kind::Collect,
+        small: 2,
+        large: 1_000,
     },
     Task {
         name: "call",
