@@ -8,3 +8,4 @@ mod Stopping
 mod Reached
 mod Leases
 mod Fits
+mod Telling

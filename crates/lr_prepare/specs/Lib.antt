@@ -3,3 +3,4 @@ pub mod Fit
 pub mod New
 pub mod Stopped
 pub mod Prepared
+pub mod Told

@@ -11,8 +11,10 @@ ghost use Rattle.lr_depot.specs.Store.{IsRun};
 ghost use Rattle.lr_history.specs.Run.{DeviceLine};
 ghost use Rattle.lr_setup.specs.Setup.{SetupLine, devices_of, IsSetup};
 ghost use Rattle.lr_prepare.specs.Fit.{IsFit};
+ghost use Rattle.lr_prepare.specs.Told.{ErrorsAreTold, ToldErrorsCome, DoneSetupsArePlain};
 
 use lr_depot::leases_last;
+use lr_images::answers_are_told;
 
 /// Each script that the grammar spells can be set up.
 pub fn scripts_fit()
@@ -25,4 +27,13 @@ pub fn leases_are_out()
         → AllByRecursion (λ (d : DeviceLine). map.get (state start log).desk.leases d.lease ≡ Some (d.image, d.manifest)) (devices_of lines) }
 {
     leases_last();
+}
+
+/// A refusal, a fault of the store and a spoiled key stop the setup exactly where an entry of the depot's log has this reply.
+pub fn stops_are_told()
+    ensures told { ErrorsAreTold }
+    ensures only { ToldErrorsCome }
+    ensures done { DoneSetupsArePlain }
+{
+    answers_are_told();
 }

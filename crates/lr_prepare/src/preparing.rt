@@ -100,9 +100,9 @@ fn with_nodes<O: Origin>(draft: Draft, nodes: Vec<Node>, count: u32, depot: Depo
 
 /// Does the setup lines of a script over a depot that was just started, in order, as caller 0.
 ///
-/// A `root` line rotates, an `image` line creates its image of its raw bytes, a `device` line opens its image and unseals its keys. A line
-/// that the depot refuses, a wrong key, a fault of the store and want of memory stop the setup: then the depot comes back with the log
-/// of all calls so far, and no lease or session of the setup is closed.
+/// A `host` line makes its cache, a `root` line rotates, an `image` line creates its image of its raw bytes, and a `device` line opens
+/// its image, unseals the keys of its chunks and makes a device of its padded length. A line that the depot refuses, a wrong key, a
+/// fault of the store, a spoiled key and want of memory stop the setup. Then the depot comes back with the log of all calls so far.
 pub fn prepare<O: Origin>(
     alloc: Global,
     script: &Script,
