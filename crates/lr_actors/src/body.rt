@@ -291,12 +291,11 @@ fn cut_one(setting: &Setting, book: &mut Book)
     requires more { length book.old.trail.results.items < vec_len setting.now.jobs }
     ensures { CutsOne setting.now book.old book.new }
 {
-    let answer = if book.path.is_empty() {
-        Answer::Unbegun
-    } else {
-        Answer::Cut
-    };
-    finish(setting.alloc, book, answer);
+    if book.path.is_empty() {
+        finish(setting.alloc, book, Answer::Unbegun);
+        return;
+    }
+    finish(setting.alloc, book, Answer::Cut);
 }
 
 // The results of the jobs that are left: none was begun.
