@@ -135,7 +135,7 @@ between_more s old new answer h lt end f = record { has = has_more s old new ans
 pub results_more : (old new : Book) (answer : Answer) → Finished old answer new → length new.trail.results.items ≡ length old.trail.results.items + 1
 results_more old new answer f = omega (arith, ap length f.results, length_push old.trail.results.items f.result)
 
-no_steps : (lists : Lists) (path : List Did) → path ≡ [] → Reads lists path []
+pub no_steps : (lists : Lists) (path : List Did) → path ≡ [] → Reads lists path []
 no_steps lists path e = rw e tt
 
 pub skipped : (s : Setting) (old new : Book) (answer : Answer) → IsBetween s old → Next s old (λ (job : Job). WalksJob (context_of s) job [] answer) → Finished old answer new → Skips s old new

@@ -21,3 +21,5 @@ pub mod UnderWay
 pub mod Keeping
 pub mod Going
 pub mod Ending
+pub mod Taking
+pub mod Whole

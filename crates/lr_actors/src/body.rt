@@ -363,8 +363,29 @@ fn end(setting: &Setting, book: &mut Book, answer: Answer) -> Stage
     settle(setting, book)
 }
 
-// The job goes on with its call, if the actor doesn't crash and finds memory for a further call of a sweep.
-fn stay(setting: &Setting, book: &mut Book, job: Running, call: ActorCall, removed: bool) -> Stage
+// After a removal a sweep goes on with its call, if there is memory for a further step.
+fn sweep_on(setting: &Setting, book: &mut Book, job: Running, call: ActorCall) -> Stage
+    requires setting { IsSetting setting.now }
+    requires has { HasEnded setting.now book.old }
+    requires crash { FitsCrash setting.now.crash Unfinished book.old.made }
+    requires next { Next setting.now book.old (λ j. IsNextCall (context_of setting.now) (hosts_of setting.now) j job call true) }
+    requires some { StandsForSome job }
+    ensures { GoesOn setting.now book.old job book.new result }
+{
+    if !make_room(book, 1) {
+        return end(setting, book, Answer::Memory);
+    }
+    Stage::Works(hold(job, call))
+}
+
+// The job goes on with its call, if the actor doesn't crash.
+fn stay(
+    setting: &Setting,
+    book: &mut Book,
+    job: Running,
+    call: ActorCall,
+    removed: bool,
+) -> Stage
     requires setting { IsSetting setting.now }
     requires has { HasEnded setting.now book.old }
     requires crash { FitsCrash setting.now.crash Ended book.old.made }
@@ -376,8 +397,8 @@ fn stay(setting: &Setting, book: &mut Book, job: Running, call: ActorCall, remov
     if is_at_crash(setting, book) {
         return crash(setting, book);
     }
-    if removed && !make_room(book, 1) {
-        return end(setting, book, Answer::Memory);
+    if removed {
+        return sweep_on(setting, book, job, call);
     }
     Stage::Works(hold(job, call))
 }
@@ -408,9 +429,10 @@ fn write_down(book: &mut Book, object: ObjectId, reply: &ActorReply)
     ensures { Writes book.old object (seen_reply reply.now) book.new }
 {
     book.trail.steps = one_more(book.trail.steps);
-    if !answers_busy(reply) {
-        note(book, object, answers_memory(reply));
+    if answers_busy(reply) {
+        return;
     }
+    note(book, object, answers_memory(reply));
 }
 
 // The job under way takes a reply.
@@ -617,8 +639,9 @@ pub(crate) fn into_trail(body: Body) -> Trail
         mut book,
         ..
     } = body;
-    if book.trail.results.len() < setting.jobs.len() {
-        fill(&setting, &mut book);
+    if book.trail.results.len() == setting.jobs.len() {
+        return book.trail;
     }
+    fill(&setting, &mut book);
     book.trail
 }
