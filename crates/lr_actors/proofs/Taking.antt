@@ -123,13 +123,16 @@ pub next_call : (s : Setting) (b : Book) (old new : Running) (c : ActorCall) (re
     → Next s b (λ (j : Job). IsNextCall (context_of s) (hosts_of s) j new c removed)
 next_call s b old new c removed is going sweeps out hands may =
     let under = under_way (context_of s) going.0 old new c going.2 out hands in
-    let sweep : removed ≡ true → IsSweep (task_of new) = λ e. subst IsSweep (sym out.task) (sweeps e) in
-    (going.0, going.1, record {
-      under = under;
-      held = held (context_of s) (hosts_of s) going.0 old new c is.context is.hosted (given_at s (length b.trail.results.items) going.0 is going.1) going.2 out hands may;
-      stops = λ e steps stands. under.task steps Memory (sweep_stops new (sweep e) under.calls steps stands);
-      last = λ e. sweep_last new (sweep e);
-    })
+    let sweep : removed ≡ true → IsSweep (task_of new) = λ e. subst IsSweep (sym out.task) (sweeps e) in (
+      going.0,
+      going.1,
+      record {
+        under = under;
+        held = held (context_of s) (hosts_of s) going.0 old new c is.context is.hosted (given_at s (length b.trail.results.items) going.0 is going.1) going.2 out hands may;
+        stops = λ e steps stands. under.task steps Memory (sweep_stops new (sweep e) under.calls steps stands);
+        last = λ e. sweep_last new (sweep e);
+      },
+    )
 
 pub out_goes : (s : Setting) (old new : Book) (r after : Running) (st : Stage) → IsOut r after → GoesOn s old after new st → GoesOn s old r new st
 out_goes s old new r after st out k = record {
@@ -316,7 +319,8 @@ going_after s old new w after reply under k = (
     task = subst (λ (t : Task). IsTask (context_of s) under.0 t) (sym k.went.task) under.2.task;
     home = k.went.home (context_of s) under.2.home;
     bound = omega (arith, near_le w.job after reply k.went.nears, under.2.bound);
-  })
+  },
+)
 
 nears_on : (old new : Running) (reply : Reply) (rest left : ℕ) → Nears reply old new → left ≤ steps_left new + rest → actor.Nears reply (steps_left old + rest) left
 nears_on old new (by_cache (caches.busy holder)) rest left n h = omega (arith, n)

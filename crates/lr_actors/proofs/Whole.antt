@@ -4,6 +4,7 @@ use Rattle.std.specs.Prelude.{slice_get, vec_len, vec_capacity, nat_lt, if◌the
 use Rattle.std.specs.Arc.{arc_value}
 use Rattle.std.specs.List.{AllByRecursion, AllZip}
 use Rattle.std.proofs.lemmas.Bool.{false≢true}
+use Rattle.std.proofs.lemmas.List.{length-map}
 use borrow.Author.Tests.{ltb-true, ltb-false}
 use Rattle.lr_spec.specs.Rose.{next_count}
 use Rattle.lr_object.specs.declared.id.ObjectId.{ObjectId}
@@ -148,7 +149,7 @@ reaped_same a lists later made same s = record {
   trail = record {
     walks = zip_extended a.context lists later a.jobs a.account.results (λ o. ([], same o ∙ sym (append-nil (lists o)))) s.trail.walks;
     counted = s.trail.counted;
-    beyond = λ o. rw same o (s.trail.beyond o);
+    beyond = λ o. rw (same o) (s.trail.beyond o);
   };
   rest = λ o u. ap length (same o) ∙ s.rest o (unreaped_less a.context a.hosts made o u);
 }
@@ -224,3 +225,164 @@ reaps_whole s b made out false e w = record {
   where
     crashed_is : Crashed ≡ Unfinished → ⊥
     crashed_is e = cc
+
+pub reaped_whole : (s : Setting) (b : Book) (made : ℕ) (out : Bool) → IsWhole s b (Reaps made out) → IsWhole s b (after_reap (context_of s) (hosts_of s) made)
+reaped_whole s b made out w = reaps_whole s b made out (nat_lt made (length (context_of s).devices + hosts_of s)) refl w
+
+-- after the last reap it is over
+took_by : (s : Setting) (b : Book) (made : ℕ) (out : Bool) (reply : Reply) (y : Bool) → nat_lt made (length (context_of s).devices + hosts_of s) ≡ y → IsWhole s b (Reaps made out) → IsWhole s b (if y then Reaps (made + 1) false else Over)
+    → Took (seen_with s b (Reaps made out)) reply (seen_with s b (if y then Reaps (made + 1) false else Over))
+took_by s b made out reply true e w new = record {
+  same = record { number = refl; context = refl; hosts = refl; jobs = refl; crash = refl };
+  is = actor_of s b (Reaps (made + 1) false) new;
+  out = refl;
+  steps = rw w.now.0 refl;
+  made = omega arith;
+  stands = λ lists later gains stands.
+      reaped_as (seen_with s b (Reaps made out)) (seen_with s b (Reaps (made + 1) false)) later (made + 1) (made + 1) refl refl refl refl refl
+      (reaped_more (seen_with s b (Reaps made out)) lists later made reply gains.0 w.now.2 gains.1 gains.2 stands);
+  nears = near_reap reply _ _ (omega (arith, w.now.2, new.now.2));
+}
+took_by s b made out reply false e w new = record {
+  same = record { number = refl; context = refl; hosts = refl; jobs = refl; crash = refl };
+  is = actor_of s b Over new;
+  out = refl;
+  steps = rw w.now.0 refl;
+  made = omega arith;
+  stands = λ lists later gains stands.
+      let ge : length (context_of s).devices + hosts_of s ≤ made = ltb-false made (length (context_of s).devices + hosts_of s) e in
+      let last : made + 1 ≡ reap_count (context_of s) (hosts_of s) = omega (arith, ge, w.now.2) in
+      let all : reaps_of b.trail.state (seen_with s b Over) ≡ reap_count (context_of s) (hosts_of s) = rw w.now.0 refl in
+      reaped_as (seen_with s b (Reaps made out)) (seen_with s b Over) later (made + 1) (reaps_of b.trail.state (seen_with s b Over)) (last ∙ sym all) refl refl refl refl
+      (reaped_more (seen_with s b (Reaps made out)) lists later made reply gains.0 w.now.2 gains.1 gains.2 stands);
+  nears = near_reap reply _ _ (omega (arith, w.now.2));
+}
+
+pub took_reap : (s : Setting) (b : Book) (made : ℕ) (out : Bool) (reply : Reply) → IsWhole s b (Reaps made out) → Took (seen_with s b (Reaps made out)) reply (seen_with s b (after_reap (context_of s) (hosts_of s) made))
+took_reap s b made out reply w = took_by s b made out reply (nat_lt made (length (context_of s).devices + hosts_of s)) refl w (reaped_whole s b made out w)
+
+-- ---- the idle step
+
+pub counted_has : (s : Setting) (b : Book) (n : ℕ) → HasEnded s b → HasEnded s (with_steps b n)
+counted_has s b n h = record { fits = record { is = record { counted = h.fits.is.counted; made = h.fits.is.made }; sized = h.fits.sized; room = h.fits.room }; state = h.state; ended = h.ended; few = h.few }
+
+pub passed : (s : Setting) (b new : Book) (n : ℕ) (st : Stage) → IsWhole s b Idles → n ≡ next_count b.trail.steps → EndsJob s (with_steps b n) NoChunk new st → Passed (seen_with s b Idles) (seen_with s new st)
+passed s b new n st w e k =
+    let job = w.now.3 in
+    record {
+      same = record { number = refl; context = refl; hosts = refl; jobs = refl; crash = refl };
+      is = actor_of s new st k.whole;
+      out = k.out;
+      steps = k.steps ∙ e;
+      made = sym k.whole.fits.is.made ∙ (k.made ∙ w.fits.is.made);
+      stands = λ lists stands. k.stands lists [] stands (no_steps lists b.path.items w.now.1) job;
+      nears = omega (arith, k.left, ahead_at s b Idles (length b.trail.results.items) job.0 job.1, bound_some job.0, ahead_same s b new Idles st (length b.trail.results.items + 1));
+    }
+
+-- ---- a new actor
+
+pub new_between : (s : Setting) (b : Book) (jobs : ℕ) → jobs ≡ vec_len s.jobs → IsNewBook jobs (length (context_of s).devices) (hosts_of s) (context_of s).nodes b → IsBetween s b
+new_between s b jobs e n = record {
+  has = record {
+    fits = record { is = n.is; sized = n.sized; room = omega (arith, n.room) };
+    state = n.state;
+    ended = rw n.results tt;
+    few = rw n.results (omega arith);
+  };
+  path = n.path;
+}
+
+pub new_crash : (crash : Option ℕ) (made : ℕ) → made ≡ 0 → FitsCrash crash Ended made
+new_crash None made e = tt
+new_crash (Some c) made e = omega arith
+
+pub is_new : (s : Setting) (b new : Book) (jobs : ℕ) (st : Stage) → IsNewBook jobs (length (context_of s).devices) (hosts_of s) (context_of s).nodes b → Prepares s b new st → IsNew s.number (context_of s) (hosts_of s) (jobs_of s) s.crash (seen_with s new st)
+is_new s b new jobs st n p = record {
+  number = refl;
+  context = refl;
+  hosts = refl;
+  jobs = refl;
+  crash = refl;
+  is = actor_of s new st p.whole;
+  steps = p.steps ∙ n.steps;
+  made = sym p.whole.fits.is.made ∙ (p.made ∙ n.made);
+  out = p.out;
+  stands = p.stands (λ (o : ObjectId). []) (rw (n.results, n.path) (stands_new (context_of s) (jobs_of s)));
+  left = rw n.results at p.left;
+}
+
+-- ---- its trail
+
+unfinished_is : (s : Setting) (b : Book) (st : Stage) (q : ActorState) → b.trail.state ≡ q → FitsState q (seen_with s b st) → (length b.trail.results.items ≡ vec_len s.jobs → ⊥) → q ≡ Unfinished
+unfinished_is s b st Unfinished e f n = refl
+unfinished_is s b st Ended e f n = absurd (n (f.1 ∙ jobs_len s))
+unfinished_is s b st Crashed e f n = absurd (n (f.1 ∙ jobs_len s))
+
+pub is_unfinished : (s : Setting) (b : Book) (st : Stage) → IsWhole s b st → (length b.trail.results.items ≡ vec_len s.jobs → ⊥) → b.trail.state ≡ Unfinished
+is_unfinished s b st w n = unfinished_is s b st b.trail.state refl w.state n
+
+full_cut : (s : Setting) (b : Book) (st : Stage) (q : ActorState) → FitsState q (seen_with s b st) → AreCutOnce b.trail.results.items
+full_cut s b st Unfinished f = ended_once b.trail.results.items f.0
+full_cut s b st Ended f = ended_once b.trail.results.items f.0
+full_cut s b st Crashed f = f.0
+
+-- with all results no job is under way
+full_busy : (s : Setting) (b : Book) (st : Stage) → IsWhole s b st → length b.trail.results.items ≡ vec_len s.jobs → b.trail.state ≡ Unfinished → ⊥
+full_busy s b st w each e =
+    let f = subst (λ (q : ActorState). FitsState q (seen_with s b st)) e w.state in
+    let lt : length b.trail.results.items < length (jobs_of s) = f.1 in
+    omega (arith, lt, each, jobs_len s)
+
+full_path : (s : Setting) (b : Book) (st : Stage) → IsWhole s b st → length b.trail.results.items ≡ vec_len s.jobs → b.path.items ≡ []
+full_path s b (Works r) w each = absurd (full_busy s b (Works r) w each w.now.0)
+full_path s b Idles w each = w.now.1
+full_path s b (Reaps made out) w each = w.now.1
+full_path s b Over w each = w.now.1
+
+full_trail : (s : Setting) (b : Book) (st : Stage) → IsWhole s b st → length b.trail.results.items ≡ vec_len s.jobs → (lists : Lists) → StandsFor (seen_with s b st) lists → HasTrail (context_of s) lists (jobs_of s) b.trail.results.items
+full_trail s b (Works r) w each lists stands = absurd (full_busy s b (Works r) w each w.now.0)
+full_trail s b Idles w each lists stands = absurd (full_busy s b Idles w each w.now.0)
+full_trail s b (Reaps made out) w each lists stands = stands.trail
+full_trail s b Over w each lists stands = stands.trail
+
+pub trail_full : (s : Setting) (b : Book) (st : Stage) → IsWhole s b st → length b.trail.results.items ≡ vec_len s.jobs → IsTrailOf (seen_with s b st) b.trail
+trail_full s b st w each = record {
+  state = refl;
+  steps = refl;
+  begins = ap (take (length b.trail.results.items)) (sym (append-nil b.trail.results.items)) ∙ take_front b.trail.results.items [];
+  each = each ∙ sym (jobs_len s);
+  cut = full_cut s b st b.trail.state w.state;
+  made = omega (arith, ap length (full_path s b st w each));
+  trail = full_trail s b st w each;
+}
+
+filled_at : (s : Setting) (b : Book) (st : Stage) → IsWhole s b st → b.trail.state ≡ Unfinished → (lists : Lists) → StandsFor (seen_with s b st) lists → StandsBook s lists b × IsCutAt s lists b
+filled_at s b (Works r) w e lists stands = (stands.0, cut_at s lists b w.now.1.0 r.job w.now.1.1 w.now.1.2 stands.1)
+filled_at s b Idles w e lists stands = (stands, inl w.now.1)
+filled_at s b (Reaps made out) w e lists stands = absurd (crashed_is (sym w.now.0 ∙ e))
+  where
+    crashed_is : Crashed ≡ Unfinished → ⊥
+    crashed_is e = cc
+filled_at s b Over w e lists stands = absurd (w.now.0 e)
+
+empty_end : (s : Setting) (b : Book) (lists : Lists) → b.path.items ≡ [] → StandsBook s lists b → Stands (context_of s) lists (jobs_of s) (record { results = b.trail.results.items; path = [] })
+empty_end s b lists e stands = rw e at stands
+
+pub trail_filled : (s : Setting) (b new : Book) (st : Stage) → IsWhole s b st → b.trail.state ≡ Unfinished → Fills s b new → IsTrailOf (seen_with s b st) new.trail
+trail_filled s b new st w e f = record {
+  state = f.state;
+  steps = f.steps;
+  begins = f.begins;
+  each = f.each ∙ sym (jobs_len s);
+  cut = f.cut;
+  made = omega (arith, f.fits.is.made, f.made, w.fits.is.made, ap length f.path);
+  trail = λ lists stands.
+      let at = filled_at s b st w e lists stands in
+      has_trail (context_of s) lists (jobs_of s) new.trail.results.items (empty_end s new lists f.path (f.stands lists at.0 at.1)) (omega (arith, f.each, jobs_len s));
+}
+
+pub book_as : (jobs d e h i n o : ℕ) (b : Book) → d ≡ e → h ≡ i → n ≡ o → IsNewBook jobs d h n b → IsNewBook jobs e i o b
+book_as jobs d e h i n o b p q r k = rw (← p, ← q, ← r) k
+
+pub context_len : (s : Setting) → length (context_of s).devices ≡ vec_len (arc_value s.context).devices
+context_len s = length-map (arc_value s.context).devices.items _ ∙ sym (arc_value s.context).devices.ok.0

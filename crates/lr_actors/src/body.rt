@@ -363,6 +363,9 @@ fn end(setting: &Setting, book: &mut Book, answer: Answer) -> Stage
     settle(setting, book)
 }
 
+// A job that is done with, and its call.
+fn give_up(_job: Running, _call: ActorCall) {}
+
 // After a removal a sweep goes on with its call, if there is memory for a further step.
 fn sweep_on(setting: &Setting, book: &mut Book, job: Running, call: ActorCall) -> Stage
     requires setting { IsSetting setting.now }
@@ -373,19 +376,14 @@ fn sweep_on(setting: &Setting, book: &mut Book, job: Running, call: ActorCall) -
     ensures { GoesOn setting.now book.old job book.new result }
 {
     if !make_room(book, 1) {
+        give_up(job, call);
         return end(setting, book, Answer::Memory);
     }
     Stage::Works(hold(job, call))
 }
 
 // The job goes on with its call, if the actor doesn't crash.
-fn stay(
-    setting: &Setting,
-    book: &mut Book,
-    job: Running,
-    call: ActorCall,
-    removed: bool,
-) -> Stage
+fn stay(setting: &Setting, book: &mut Book, job: Running, call: ActorCall, removed: bool) -> Stage
     requires setting { IsSetting setting.now }
     requires has { HasEnded setting.now book.old }
     requires crash { FitsCrash setting.now.crash Ended book.old.made }
@@ -395,6 +393,7 @@ fn stay(
     ensures { GoesOn setting.now book.old job book.new result }
 {
     if is_at_crash(setting, book) {
+        give_up(job, call);
         return crash(setting, book);
     }
     if removed {
@@ -584,6 +583,16 @@ fn hand(setting: &Setting, stage: Stage) -> Handed
     }
 }
 
+// Puts a stage in place of another.
+fn put(old: &mut Stage, stage: Stage)
+    ensures { old.new ≡ stage }
+{
+    *old = stage;
+}
+
+// A stage that is done with.
+fn leave(_stage: Stage) {}
+
 /// What an actor does next.
 pub(crate) fn next(body: &mut Body) -> ActorAction
     requires whole { IsWholeBody body.old }
@@ -595,8 +604,9 @@ pub(crate) fn next(body: &mut Body) -> ActorAction
 {
     let stage = mem::replace(&mut body.stage, Stage::Over);
     let handed = hand(&body.setting, stage);
-    body.stage = handed.stage;
-    handed.action
+    let Handed { stage, action } = handed;
+    put(&mut body.stage, stage);
+    action
 }
 
 /// Takes the reply to the call handed out.
@@ -609,10 +619,12 @@ pub(crate) fn take(body: &mut Body, reply: ActorReply)
 {
     match mem::replace(&mut body.stage, Stage::Over) {
         Stage::Works(working) => {
-            body.stage = take_reply(&body.setting, &mut body.book, working, reply);
+            let stage = take_reply(&body.setting, &mut body.book, working, reply);
+            put(&mut body.stage, stage);
         }
         Stage::Reaps(made, _) => {
-            body.stage = reaped(&body.setting, made);
+            let stage = reaped(&body.setting, made);
+            put(&mut body.stage, stage);
         }
         Stage::Idles | Stage::Over => unreachable!(),
     }
@@ -626,7 +638,8 @@ pub(crate) fn pass(body: &mut Body)
     ensures passed { Passed (seen body.old) (seen body.new) }
 {
     body.book.trail.steps = one_more(body.book.trail.steps);
-    body.stage = end(&body.setting, &mut body.book, Answer::NoChunk);
+    let stage = end(&body.setting, &mut body.book, Answer::NoChunk);
+    put(&mut body.stage, stage);
 }
 
 /// The trail, with a result for each job.
