@@ -61,19 +61,19 @@ zip_of R [] (y ∷ ys) e f = absurd (omega arith)
 zip_of R (x ∷ xs) [] e f = absurd (omega arith)
 zip_of R (x ∷ xs) (y ∷ ys) e f = (f 0 x y refl refl, zip_of R xs ys (omega arith) (λ i a b g h. f (suc i) a b g h))
 
-drop_all : {X : Type 0} (xs : List X) → drop (length xs) xs ≡ []
+pub drop_all : {X : Type 0} (xs : List X) → drop (length xs) xs ≡ []
 drop_all [] = refl
 drop_all (x ∷ xs) = drop_all xs
 
 -- ---- objects
 
-same-refl : (o : ObjectId) → is_same o o ≡ true
+pub same-refl : (o : ObjectId) → is_same o o ≡ true
 same-refl (Device a) = eq-eqb a a refl
 same-refl (Cache a) = eq-eqb a a refl
 same-refl (Node a) = eq-eqb a a refl
 same-refl Depot = refl
 
-same_is : (a b : ObjectId) → is_same a b ≡ true → a ≡ b
+pub same_is : (a b : ObjectId) → is_same a b ≡ true → a ≡ b
 same_is (Device a) (Device b) e = ap Device (eqb-true a b e)
 same_is (Cache a) (Cache b) e = ap Cache (eqb-true a b e)
 same_is (Node a) (Node b) e = ap Node (eqb-true a b e)
@@ -93,10 +93,10 @@ same_is Depot (Node b) e = absurd (cc)
 
 -- ---- each list begins with what it was
 
-abbrev Extends : Lists → Lists → Type 0
+abbrev pub Extends : Lists → Lists → Type 0
 Extends old new = (o : ObjectId) → (tail : List Step) × (new o ≡ old o ++ tail)
 
-extends_by : (b : Bool) (lists after : Lists) (s : Step) → Grows b lists after s → Extends lists after
+pub extends_by : (b : Bool) (lists after : Lists) (s : Step) → Grows b lists after s → Extends lists after
 extends_by true lists after s g = λ o. ([], rw (g o, append-nil) refl)
 extends_by false lists after s g = λ o. by o (is_same (object_of s.call) o) refl
   where

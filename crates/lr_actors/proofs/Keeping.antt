@@ -219,9 +219,10 @@ both_by : (b : Bool) (s : Setting) (lists later : Lists) (old : Book) (r new : R
     → Both s later (record { results = old.trail.results.items; path = if b then old.path.items else (old.path.items ++ did_at (account_of old) (object_asked (asked r)) (is_memory reply) ∷ []) }) new
 both_by true s lists later old r new reply more by went adds grows both =
     let same : (o : ObjectId) → later o ≡ lists o = subst (λ (m : List Step). GrowsBy m lists later) by grows in
-    let none : Adds (asked r) reply [] = subst (λ (m : List Step). Adds (asked r) reply m) by adds in
-    (stands_same (context_of s) lists later (jobs_of s) (account_of old) same both.0,
-     at_same lists later old.path.items new same (at_busy lists old.path.items r new reply went none both.1))
+    let none : Adds (asked r) reply [] = subst (λ (m : List Step). Adds (asked r) reply m) by adds in (
+      stands_same (context_of s) lists later (jobs_of s) (account_of old) same both.0,
+      at_same lists later old.path.items new same (at_busy lists old.path.items r new reply went none both.1),
+    )
 both_by false s lists later old r new reply more by went adds grows both =
     let x = by.one in
     let grows1 : Grows (is_memory x.reply) lists later x = subst (λ (m : List Step). GrowsBy m lists later) by.is grows in

@@ -19,3 +19,7 @@ pub mod Accounted
 pub mod Ended
 pub mod UnderWay
 pub mod Keeping
+pub mod Going
+pub mod Ending
+pub mod Taking
+pub mod Whole

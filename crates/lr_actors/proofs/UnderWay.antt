@@ -263,7 +263,7 @@ is_call (call.Depot c) a h = subst IsCall h tt
 
 -- ---- within the context
 
-slice_get_lt : {X : Type 0} (xs : List X) (i : ℕ) (x : X) → slice_get xs i ≡ Some x → i < length xs
+pub slice_get_lt : {X : Type 0} (xs : List X) (i : ℕ) (x : X) → slice_get xs i ≡ Some x → i < length xs
 slice_get_lt [] i x e = cc
 slice_get_lt (y ∷ xs) zero x e = omega arith
 slice_get_lt (y ∷ xs) (suc i) x e = omega (arith, slice_get_lt xs i x e)

@@ -291,12 +291,11 @@ fn cut_one(setting: &Setting, book: &mut Book)
     requires more { length book.old.trail.results.items < vec_len setting.now.jobs }
     ensures { CutsOne setting.now book.old book.new }
 {
-    let answer = if book.path.is_empty() {
-        Answer::Unbegun
-    } else {
-        Answer::Cut
-    };
-    finish(setting.alloc, book, answer);
+    if book.path.is_empty() {
+        finish(setting.alloc, book, Answer::Unbegun);
+        return;
+    }
+    finish(setting.alloc, book, Answer::Cut);
 }
 
 // The results of the jobs that are left: none was begun.
@@ -364,7 +363,26 @@ fn end(setting: &Setting, book: &mut Book, answer: Answer) -> Stage
     settle(setting, book)
 }
 
-// The job goes on with its call, if the actor doesn't crash and finds memory for a further call of a sweep.
+// A job that is done with, and its call.
+fn give_up(_job: Running, _call: ActorCall) {}
+
+// After a removal a sweep goes on with its call, if there is memory for a further step.
+fn sweep_on(setting: &Setting, book: &mut Book, job: Running, call: ActorCall) -> Stage
+    requires setting { IsSetting setting.now }
+    requires has { HasEnded setting.now book.old }
+    requires crash { FitsCrash setting.now.crash Unfinished book.old.made }
+    requires next { Next setting.now book.old (λ j. IsNextCall (context_of setting.now) (hosts_of setting.now) j job call true) }
+    requires some { StandsForSome job }
+    ensures { GoesOn setting.now book.old job book.new result }
+{
+    if !make_room(book, 1) {
+        give_up(job, call);
+        return end(setting, book, Answer::Memory);
+    }
+    Stage::Works(hold(job, call))
+}
+
+// The job goes on with its call, if the actor doesn't crash.
 fn stay(setting: &Setting, book: &mut Book, job: Running, call: ActorCall, removed: bool) -> Stage
     requires setting { IsSetting setting.now }
     requires has { HasEnded setting.now book.old }
@@ -375,10 +393,11 @@ fn stay(setting: &Setting, book: &mut Book, job: Running, call: ActorCall, remov
     ensures { GoesOn setting.now book.old job book.new result }
 {
     if is_at_crash(setting, book) {
+        give_up(job, call);
         return crash(setting, book);
     }
-    if removed && !make_room(book, 1) {
-        return end(setting, book, Answer::Memory);
+    if removed {
+        return sweep_on(setting, book, job, call);
     }
     Stage::Works(hold(job, call))
 }
@@ -409,9 +428,10 @@ fn write_down(book: &mut Book, object: ObjectId, reply: &ActorReply)
     ensures { Writes book.old object (seen_reply reply.now) book.new }
 {
     book.trail.steps = one_more(book.trail.steps);
-    if !answers_busy(reply) {
-        note(book, object, answers_memory(reply));
+    if answers_busy(reply) {
+        return;
     }
+    note(book, object, answers_memory(reply));
 }
 
 // The job under way takes a reply.
@@ -563,6 +583,16 @@ fn hand(setting: &Setting, stage: Stage) -> Handed
     }
 }
 
+// Puts a stage in place of another.
+fn put(old: &mut Stage, stage: Stage)
+    ensures { old.new ≡ stage }
+{
+    *old = stage;
+}
+
+// A stage that is done with.
+fn leave(_stage: Stage) {}
+
 /// What an actor does next.
 pub(crate) fn next(body: &mut Body) -> ActorAction
     requires whole { IsWholeBody body.old }
@@ -574,8 +604,9 @@ pub(crate) fn next(body: &mut Body) -> ActorAction
 {
     let stage = mem::replace(&mut body.stage, Stage::Over);
     let handed = hand(&body.setting, stage);
-    body.stage = handed.stage;
-    handed.action
+    let Handed { stage, action } = handed;
+    put(&mut body.stage, stage);
+    action
 }
 
 /// Takes the reply to the call handed out.
@@ -588,10 +619,12 @@ pub(crate) fn take(body: &mut Body, reply: ActorReply)
 {
     match mem::replace(&mut body.stage, Stage::Over) {
         Stage::Works(working) => {
-            body.stage = take_reply(&body.setting, &mut body.book, working, reply);
+            let stage = take_reply(&body.setting, &mut body.book, working, reply);
+            put(&mut body.stage, stage);
         }
         Stage::Reaps(made, _) => {
-            body.stage = reaped(&body.setting, made);
+            let stage = reaped(&body.setting, made);
+            put(&mut body.stage, stage);
         }
         Stage::Idles | Stage::Over => unreachable!(),
     }
@@ -605,7 +638,8 @@ pub(crate) fn pass(body: &mut Body)
     ensures passed { Passed (seen body.old) (seen body.new) }
 {
     body.book.trail.steps = one_more(body.book.trail.steps);
-    body.stage = end(&body.setting, &mut body.book, Answer::NoChunk);
+    let stage = end(&body.setting, &mut body.book, Answer::NoChunk);
+    put(&mut body.stage, stage);
 }
 
 /// The trail, with a result for each job.
@@ -618,8 +652,9 @@ pub(crate) fn into_trail(body: Body) -> Trail
         mut book,
         ..
     } = body;
-    if book.trail.results.len() < setting.jobs.len() {
-        fill(&setting, &mut book);
+    if book.trail.results.len() == setting.jobs.len() {
+        return book.trail;
     }
+    fill(&setting, &mut book);
     book.trail
 }

@@ -1,5 +1,5 @@
-use Rattle.lr_actors.proofs.UnderWay.{under_way, held, cut_walk, sweep_stops}
+use Rattle.lr_actors.proofs.Going.{skipped}
 use Rattle.lr_actors.proofs.body.skip.Goals as goal
 
 pub returns : goal.returns
-returns c = ?
+returns c = skipped c.args.setting.now c.args.book.now c.finish.new.book c.args.answer c.requires.between c.requires.walks c.finish.ensures
