@@ -64,6 +64,13 @@ impl Actor {
         Ok(Actor { body })
     }
 
+    /// The number that it was made with.
+    pub fn number(&self) -> u32
+        ensures { result ≡ self.now.number }
+    {
+        self.body.setting.number
+    }
+
     /// Hands out the prepared call, or tells an idle step or the end. It takes no memory.
     pub fn next(&mut self) -> ActorAction
         requires { self.old.out ≡ false }
