@@ -1,4 +1,4 @@
-use Rattle.std.proofs.Common.{◌≡◌, ◌∙◌, ⊥, length, vec_len, sym, arith}
+use Rattle.std.proofs.Common.{◌≡◌, ◌∙◌, length, vec_len, sym, arith}
 use Rattle.lr_actors.proofs.Whole.{trail_full, trail_filled, is_unfinished, whole_has}
 use Rattle.lr_actors.proofs.body.into_trail.Goals as goal
 
