@@ -1,9 +1,9 @@
 -- pieces of raw bytes are sealed as the chunks of these bytes
-use Rattle.std.proofs.Common.{◌≡◌, ◌≤◌, ◌<◌, ℕ, suc, zero, ◌+◌, ◌-◌, ◌*◌, ◌/◌, ◌%◌, List, [], ◌∷◌, ◌++◌, length, length-append, map, take, take_all, drop, replicate, refl, sym, ap, subst, ◌∙◌, append-nil, append_assoc, arith}
+use Rattle.std.proofs.Common.{◌≡◌, ◌≤◌, ◌<◌, ℕ, suc, zero, ◌+◌, ◌-◌, ◌%◌, List, [], ◌∷◌, ◌++◌, length, length-append, map, take, take_all, drop, replicate, refl, sym, ap, ◌∙◌, append-nil, append_assoc, arith}
 use Rattle.std.proofs.lemmas.List.{length-replicate, replicate-append-replicate}
 use Rattle.std.proofs.Math.Seq.{take-append_seam, drop-append_seam}
 use Rattle.sha2.specs.Sha256.{sha256}
-use Rattle.lr_layout.specs.Padded.{padded, padded_length, whole_parts, count_of_chunks}
+use Rattle.lr_layout.specs.Padded.{padded_length, whole_parts, count_of_chunks}
 use Rattle.lr_layout.specs.Chunks.{parts, chunks_of}
 use Rattle.lr_convergent.specs.Sealed.{filled, chunk_text, sealed_key, sealed_name}
 use Rattle.lr_images.specs.Drive.{joined, ArePieces}

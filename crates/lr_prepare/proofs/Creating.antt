@@ -1,13 +1,11 @@
 -- the entries of an image line
-use Rattle.std.proofs.Common.{◌≡◌, ℕ, suc, ◌+◌, arith, List, [], ◌∷◌, ◌++◌, map, length, Option, Some, refl, sym, ap, subst, ◌∙◌, inl, inr, append-nil, append_assoc, length-append, add-zero}
-use Rattle.std.specs.Prelude.{◌⊎◌}
+use Rattle.std.proofs.Common.{◌≡◌, ℕ, ◌+◌, arith, List, [], ◌∷◌, ◌++◌, map, length, Option, Some, refl, sym, ap, subst, ◌∙◌, inl, inr, append-nil, append_assoc, length-append, add-zero}
 use Rattle.std.proofs.lemmas.List.{map-append}
 use Rattle.std.specs.List.{AllByRecursion, AllZip}
 use Rattle.std.specs.Arc.{arc_value}
 use Rattle.std.specs.declared.sync.Arc.{Arc}
 use Rattle.std.specs.declared.alloc.Global.{Global}
 use Rattle.lr_layout.specs.Chunks.{chunks_of}
-use Rattle.lr_manifest.specs.declared.name.Name.{Name}
 use Rattle.lr_manifest.specs.Manifest.{ManifestFields, name_bytes, AreKeys}
 use Rattle.lr_convergent.specs.Sealed.{sealed_key, sealed_name}
 use Rattle.lr_seal.specs.Table.{HasTag, key_list}
@@ -21,13 +19,12 @@ use Rattle.lr_depot.specs.Store.{IsRun}
 use Rattle.lr_walk.specs.Depot as depots
 use Rattle.lr_walk.specs.Depot.{Step, step, step_of, seen_noted, logged, Reply, began, kept, made, begins, puts_chunk, puts_manifest}
 use Rattle.lr_creator.specs.declared.create.Place.{Place}
-use Rattle.lr_creator.specs.Creation.{Ending, with_root, Input, piece, last, Parts, no_parts, with_piece, fields_of, place_of, nonce_of, Puts, Creates}
+use Rattle.lr_creator.specs.Creation.{Ending, with_root, piece, last, Parts, no_parts, with_piece, fields_of, place_of, nonce_of, Puts, Creates}
 use Rattle.lr_images.specs.declared.created.Created.TheVariants.{Root}
 use Rattle.lr_images.specs.Drive.{GoesOn, joined, ArePieces}
 use Rattle.lr_images.specs.Created.{IsCreation}
 use Rattle.lr_images.proofs.Made.{call_chunk, told_kept, call_manifest, told_made, call_begin, told_began, first_began, chunk_holds, not_early, root_of, kept_of, began_of, first_entry, fields_names, fields_raw, last_made}
-use Rattle.lr_history.specs.Run.{ImageLine}
-use Rattle.lr_setup.specs.Setup.{SetupLine, creates, entry, IsKept, IsSetup}
+use Rattle.lr_setup.specs.Setup.{entry, IsKept}
 use Rattle.lr_prepare.specs.New.{IsCreated}
 use Rattle.lr_prepare.proofs.Entries.{is_entry}
 use Rattle.lr_prepare.proofs.Keys.{made_tag, made_keys, sealed_rows}

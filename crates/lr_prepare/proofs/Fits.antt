@@ -1,5 +1,5 @@
 -- spelled scripts fit
-use Rattle.std.proofs.Common.{◌≡◌, ◌≤◌, ◌<◌, ℕ, zero, suc, ◌+◌, List, [], ◌∷◌, ◌++◌, length, map, Bool, true, false, Option, Some, None, refl, sym, ap, subst, ◌∙◌, append-nil, length-append, arith}
+use Rattle.std.proofs.Common.{◌≡◌, ◌≤◌, ℕ, ◌+◌, List, [], ◌∷◌, ◌++◌, length, Bool, true, false, Option, Some, None, refl, sym, ap, subst, ◌∙◌, append-nil, length-append, arith}
 use Rattle.std.specs.List.{AllByRecursion}
 use Rattle.std.proofs.lemmas.List.{map-append}
 use Rattle.lr_text.specs.Words.{split_at_byte}
@@ -11,7 +11,7 @@ use Rattle.lr_script.specs.Seen.{ScriptSeen, SetupSeen, JobSeen, Host, Root, Ima
 use Rattle.lr_script.specs.State.{State, start, counted, add_job}
 use Rattle.lr_script.specs.Kinds.{kind_of}
 use Rattle.lr_script.specs.Lines.{KindLine, NodesLine, HostLine}
-use Rattle.lr_script.specs.Grammar.{is_passed, WordsLine, CountedLine, Reads, Run, Spells}
+use Rattle.lr_script.specs.Grammar.{is_passed, WordsLine, CountedLine, Run, Spells}
 use Rattle.lr_history.proofs.Public.{all_append}
 use Rattle.lr_prepare.specs.Fit.{HasRoom, IsFit}
 use Rattle.lr_prepare.specs.Lines.{unnumbered, capacities}

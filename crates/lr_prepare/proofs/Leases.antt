@@ -1,5 +1,5 @@
 -- the leases of the setup are out
-use Rattle.std.proofs.Common.{◌≡◌, ℕ, zero, suc, List, [], ◌∷◌, ◌++◌, map, Some, refl, sym, ap, subst, ◌∙◌, inl, inr, append_assoc, append-nil, arith}
+use Rattle.std.proofs.Common.{◌≡◌, ℕ, List, [], ◌∷◌, ◌++◌, Some, refl, sym, ap, subst, ◌∙◌, inl, inr, append_assoc}
 use Rattle.std.specs.Prelude.{◌⊎◌}
 use Rattle.std.specs.List.{AllByRecursion, AllZip}
 use Rattle.std.specs.Arc.{arc_value}
@@ -7,7 +7,6 @@ use Rattle.std.specs.declared.sync.Arc.{Arc}
 use Rattle.std.specs.declared.alloc.Global.{Global}
 use Rattle.std.specs.FinMap as finmap
 use Rattle.std.proofs.lemmas.List.Sums.{fold-append}
-use Rattle.lr_manifest.specs.declared.name.Name.{Name}
 use Rattle.lr_manifest.specs.Manifest.{ManifestFields}
 use Rattle.lr_roots.specs.Names.{IsOneOf}
 use Rattle.lr_depot.specs.declared.call.DepotNoted.TheVariants as noted

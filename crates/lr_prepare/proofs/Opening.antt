@@ -1,17 +1,15 @@
 -- a rotation, and an opened image
-use Rattle.std.proofs.Common.{◌≡◌, ℕ, List, [], ◌∷◌, ◌++◌, length, map, refl, sym, ap, subst, ◌∙◌, append-nil}
+use Rattle.std.proofs.Common.{◌≡◌, ℕ, List, [], ◌∷◌, length, map, refl, sym, ap, subst, ◌∙◌, append-nil}
 use Rattle.std.specs.Arc.{arc_value}
 use Rattle.std.specs.declared.sync.Arc.{Arc}
 use Rattle.std.specs.declared.alloc.Global.{Global}
 use Rattle.lr_manifest.specs.Manifest.{ManifestFields, IsManifest}
 use Rattle.lr_seal.specs.Table.{HasTag, key_list}
-use Rattle.lr_depot.specs.declared.call.DepotCall.{DepotCall}
 use Rattle.lr_depot.specs.declared.call.DepotCall.TheVariants.{OpenImage, Rotate}
 use Rattle.lr_depot.specs.declared.call.DepotNoted.TheVariants as noted
-use Rattle.lr_depot.specs.declared.call.DepotReply.{DepotReply}
 use Rattle.lr_depot.specs.declared.call.DepotReply.TheVariants.{Opened, Rotated}
 use Rattle.lr_depot.specs.declared.call.DepotTold.TheVariants as told
-use Rattle.lr_depot.specs.Machine.{LogEntry, DepotStep, Enters}
+use Rattle.lr_depot.specs.Machine.{LogEntry, DepotStep}
 use Rattle.lr_depot.specs.Depot.{Seen, state}
 use Rattle.lr_actors.specs.Places.{seen_place, IsPlace}
 use Rattle.lr_actors.specs.Creating.{raw_of}
@@ -20,14 +18,14 @@ use Rattle.lr_history.specs.Run.{DeviceLine}
 use Rattle.lr_setup.specs.Setup.{rotates, creates, opens}
 use Rattle.lr_images.proofs.Calling.{Logs}
 use Rattle.lr_prepare.specs.declared.draft.Draft.{Draft}
-use Rattle.lr_prepare.specs.New.{new_device, new_cache, place_at, IsAt, IsMore, IsDone, IsCreated}
+use Rattle.lr_prepare.specs.New.{kept_manifests, place_at, IsAt, IsMore, IsDone, IsCreated}
 use Rattle.lr_prepare.proofs.Entries.{is_entry, told_opened}
 use Rattle.lr_prepare.proofs.Keys.{key_each}
 use Rattle.std.specs.Prelude.{true}
 
 -- nothing was added
 pub none_more : (draft : Draft) → IsMore [] [] draft draft
-none_more draft = record { caches = sym (append-nil draft.caches.items); devices = sym (append-nil draft.devices.items); places = sym (append-nil (map seen_place draft.places.items)); keys = tt }
+none_more draft = record { caches = sym (append-nil draft.caches.items); devices = sym (append-nil draft.devices.items); places = sym (append-nil (map seen_place draft.places.items)); manifests = sym (append-nil (kept_manifests draft.places.items)); keys = tt }
 
 pub rotated_line : {O : Type 0} (old new : Seen O) (salt : List ℕ) (root : ℕ) → Logs true (Rotate salt) (Rotated root) old.log new.log → (before : ℕ) (draft : Draft) → IsDone (Root salt) before old new draft draft
 rotated_line old new salt root (e, grew, caller, enters, shared) before draft = record {

@@ -1,19 +1,18 @@
 -- all lines, one after another
-use Rattle.std.proofs.Common.{◌≡◌, ◌≤◌, ◌<◌, ℕ, zero, suc, ◌+◌, List, [], ◌∷◌, ◌++◌, length, map, take, drop, get_or, replicate, refl, sym, ap, subst, ◌∙◌, inl, inr, append-nil, add-one, arith}
-use Rattle.std.specs.Prelude.{Result, IfErr, Err}
+use Rattle.std.proofs.Common.{◌≡◌, ◌≤◌, ◌<◌, ℕ, zero, suc, ◌+◌, List, [], ◌∷◌, ◌++◌, length, map, take, drop, get_or, replicate, refl, sym, ap, subst, ◌∙◌, inr, add-one, arith}
 use Rattle.std.specs.List.{AllByRecursion}
 use Rattle.std.proofs.Math.Seq.{take-suc, drop-cons}
 use Rattle.std.proofs.lemmas.List.{length-map, map-append, take-append-drop, take_all}
 use Rattle.lr_spec.specs.Rose.{Rose}
 use Rattle.lr_images.proofs.Calling.{rose_before}
 use Rattle.lr_depot.specs.Begun.{Start}
-use Rattle.lr_depot.specs.Machine.{LogEntry}
 use Rattle.lr_depot.specs.Depot.{Seen, first_state, state}
 use Rattle.lr_depot.specs.Store.{IsRun}
 use Rattle.lr_walk.specs.Depot.{Step}
 use Rattle.lr_images.specs.Drive.{Calls}
 use Rattle.lr_images.proofs.Made.{run_rest}
 use Rattle.lr_walk.specs.Calls.{DevicePlace}
+use Rattle.lr_manifest.specs.Manifest.{ManifestFields}
 use Rattle.lr_actors.specs.declared.place.Parts.{Parts}
 use Rattle.lr_actors.specs.declared.place.Context.{Context}
 use Rattle.lr_actors.specs.Places.{seen_place, IsPlace}
@@ -22,16 +21,16 @@ use Rattle.lr_script.specs.Limits.{hosts_most}
 use Rattle.lr_script.specs.Seen.{ScriptSeen, SetupSeen, Host, Root, Image, Device, setup_seen}
 use Rattle.lr_history.specs.Run.{DeviceLine}
 use Rattle.lr_history.proofs.Public.{all_append}
-use Rattle.lr_setup.specs.Setup.{SetupLine, images_of, devices_of, IsSetup}
+use Rattle.lr_setup.specs.Setup.{images_of, devices_of, IsSetup}
 use Rattle.lr_prepare.specs.declared.draft.Draft.{Draft}
 use Rattle.lr_prepare.specs.declared.error.SetupError.{SetupError}
 use Rattle.lr_prepare.specs.declared.error.SetupError.TheVariants as error
 use Rattle.lr_prepare.specs.Fit.{HasRoom, IsFit}
 use Rattle.lr_prepare.specs.Lines.{seen_lines, unnumbered, capacities, AreDoneAs}
-use Rattle.lr_prepare.specs.New.{new_device, new_cache, new_node, place_at, IsDone, HasDone}
+use Rattle.lr_prepare.specs.New.{new_device, new_cache, new_node, place_at, kept_manifests, line_manifests, IsDone, HasDone}
 use Rattle.lr_prepare.specs.Stopped.{IsStopped, StopsFirst, IsLeft}
 use Rattle.lr_prepare.specs.Prepared.{IsPrepared}
-use Rattle.lr_prepare.proofs.Joined.{done_as_more, done_as_one, images-append, devices-append, capacities-append, setup_more}
+use Rattle.lr_prepare.proofs.Joined.{done_as_more, done_as_one, devices-append, capacities-append, setup_more}
 
 -- ---- the lines so far
 
@@ -43,6 +42,7 @@ done_none now draft log devices places caches = record {
   ran = log;
   devices = devices;
   places = ap (map seen_place) places;
+  manifests = ap kept_manifests places;
   caches = caches;
   keys = tt;
 }
@@ -64,6 +64,8 @@ done_more faults old new draft after setup x steps h calls done =
           ∙ (sym (map-append new_device (devices_of h.lines) (devices_of d.lines)) ∙ ap (map new_device) (sym (devices-append h.lines d.lines))));
       places = d.more.places ∙ (ap (λ (l : List DevicePlace). l ++ map place_at (devices_of d.lines)) h.places
           ∙ (sym (map-append place_at (devices_of h.lines) (devices_of d.lines)) ∙ ap (map place_at) (sym (devices-append h.lines d.lines))));
+      manifests = d.more.manifests ∙ (ap (λ (l : List ManifestFields). l ++ line_manifests (devices_of d.lines)) h.manifests
+          ∙ (sym (map-append (λ (x : DeviceLine). x.manifest) (devices_of h.lines) (devices_of d.lines)) ∙ ap line_manifests (sym (devices-append h.lines d.lines))));
       caches = d.more.caches ∙ (ap (λ l. l ++ map new_cache (capacities (x ∷ []))) h.caches
           ∙ (sym (map-append new_cache (capacities setup) (capacities (x ∷ []))) ∙ ap (map new_cache) (sym (capacities-append setup (x ∷ [])))));
       keys = subst (AllByRecursion (λ (e : DeviceLine). IsPlace (place_at e))) (sym (devices-append h.lines d.lines))
@@ -180,6 +182,7 @@ prepared_of script depot now draft lines parts context same start done devices c
       caches = caches ∙ (done.caches ∙ all);
       nodes = nodes;
       shared = λ i. record { devices = (ap (map seen_place) places ∙ done.places) i; nodes = count i };
+      manifests = ap kept_manifests places ∙ done.manifests;
       hosts = hosts ∙ (ap length done.caches ∙ (length-map (capacities (unnumbered (seen_lines lines))) new_cache ∙ ap (λ (l : List SetupSeen). length (capacities l)) setup));
       keys = done.keys;
     }

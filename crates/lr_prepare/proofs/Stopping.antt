@@ -1,6 +1,6 @@
 -- what stops a line
-use Rattle.std.proofs.Common.{◌≡◌, ℕ, List, [], ◌∷◌, ◌++◌, map, Option, Some, Err, refl, sym, ap, subst, ◌∙◌, inl, inr}
-use Rattle.std.specs.Prelude.{Result, IfErr, ◌⊎◌}
+use Rattle.std.proofs.Common.{◌≡◌, ℕ, List, [], ◌∷◌, ◌++◌, map, Option, Some, refl, sym, subst, inl, inr}
+use Rattle.std.specs.Prelude.{◌⊎◌}
 use Rattle.std.specs.Arc.{arc_value}
 use Rattle.std.specs.declared.sync.Arc.{Arc}
 use Rattle.std.specs.declared.alloc.Global.{Global}
@@ -13,12 +13,12 @@ use Rattle.lr_depot.specs.declared.call.DepotReply.TheVariants.{NoImage, Opened,
 use Rattle.lr_depot.specs.Machine.{DepotStep}
 use Rattle.lr_depot.specs.Store.{IsFault as IsDepotFault}
 use Rattle.lr_depot.specs.Depot.{Seen}
-use Rattle.lr_walk.specs.Depot.{Reply, Step, step, rotates, opens, opened, seen_reply}
+use Rattle.lr_walk.specs.Depot.{Reply, step, rotates, opens, opened, seen_reply}
 use Rattle.lr_walk.proofs.Depot.{answers_by_table}
-use Rattle.lr_creator.specs.Creation.{Ending, with_root, with_reply, with_memory, with_stop, piece, last, Creates}
+use Rattle.lr_creator.specs.Creation.{Ending, with_reply, with_memory, with_stop, piece, last, Creates}
 use Rattle.lr_images.specs.declared.created.Created.{Created}
 use Rattle.lr_images.specs.declared.created.Created.TheVariants as by
-use Rattle.lr_images.specs.Drive.{Calls, joined}
+use Rattle.lr_images.specs.Drive.{joined}
 use Rattle.lr_images.specs.Created.{IsAnswer, IsCreation, IsStoreFault}
 use Rattle.lr_script.specs.Seen.{Root, Device}
 use Rattle.lr_prepare.specs.declared.error.SetupError.{SetupError}

@@ -1,16 +1,11 @@
 -- what the log tells of where the setup stopped
 use Rattle.std.proofs.Common.{◌≡◌, ℕ, List, [], ◌∷◌, ◌++◌, map, refl, sym, ap, subst, ◌∙◌, inl, inr}
-use Rattle.std.specs.Prelude.{◌⊎◌, ⊤}
+use Rattle.std.specs.Prelude.{◌⊎◌}
 use Rattle.std.specs.List.{AllByRecursion, AllZip}
-use Rattle.std.specs.Arc.{arc_value}
-use Rattle.std.specs.declared.sync.Arc.{Arc}
-use Rattle.std.specs.declared.alloc.Global.{Global}
-use Rattle.lr_manifest.specs.Manifest.{ManifestFields}
 use Rattle.lr_roots.specs.Names.{IsOneOf}
 use Rattle.lr_rules.specs.State.{State}
 use Rattle.lr_depot.specs.declared.call.DepotNoted.TheVariants as noted
 use Rattle.lr_depot.specs.declared.call.DepotTold.TheVariants as told
-use Rattle.lr_depot.specs.Begun.{Start}
 use Rattle.lr_depot.specs.Depot.{first_state}
 use Rattle.lr_depot.specs.Machine.{LogEntry, after_entry, run}
 use Rattle.lr_walk.specs.Depot as depots
@@ -25,7 +20,7 @@ use Rattle.lr_actors.specs.Creating.{raw_of}
 use Rattle.lr_setup.specs.Setup.{SetupLine, rotates as rotates_line, creates, opens as opens_line, entry, IsKept, IsSetup}
 use Rattle.lr_prepare.specs.declared.error.SetupError.{SetupError}
 use Rattle.lr_prepare.specs.declared.error.SetupError.TheVariants as error
-use Rattle.lr_prepare.specs.Stopped.{Refuses, IsFault, IsPlain, Tells, StopsRotation, StopsOpening, StopsCreation, IsUncreated, Stops, IsStopped, StopsFirst, IsLeft}
+use Rattle.lr_prepare.specs.Stopped.{IsPlain, Tells, StopsRotation, StopsOpening, StopsCreation, IsUncreated, Stops, StopsFirst}
 use Rattle.lr_prepare.specs.Told.{IsOfDepot, Makes, ErrorsAreTold, ToldErrorsCome, DoneSetupsArePlain}
 
 -- ---- logs

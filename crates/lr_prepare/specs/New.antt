@@ -1,6 +1,7 @@
 -- What setup lines make: the objects as they are new, and the places of devices.
 use Rattle.std.specs.Prelude.{◌≡◌, ℕ, List, [], ◌∷◌, ◌++◌, length, map}
 use Rattle.std.specs.List.{AllByRecursion}
+use Rattle.std.specs.Arc.{arc_value}
 use Rattle.lr_layout.specs.Padded.{padded_length}
 use Rattle.lr_manifest.specs.Manifest.{ManifestFields}
 use Rattle.lr_cache.specs.Served as cache
@@ -10,6 +11,7 @@ use Rattle.lr_depot.specs.Machine.{LogEntry}
 use Rattle.lr_depot.specs.Depot.{Seen, first_state, state}
 use Rattle.lr_depot.specs.Store.{IsRun}
 use Rattle.lr_walk.specs.Calls.{DevicePlace}
+use Rattle.lr_actors.specs.declared.place.DevicePlace.{DevicePlace as Place}
 use Rattle.lr_actors.specs.Places.{seen_place, IsPlace}
 use Rattle.lr_script.specs.Seen.{SetupSeen}
 use Rattle.lr_history.specs.Run.{ImageLine, DeviceLine}
@@ -29,6 +31,14 @@ new_cache capacity = record { capacity = capacity; log = [] }
 abbrev pub new_node : ℕ → node.Seen
 new_node capacity = record { capacity = capacity; log = [] }
 
+-- the manifests that places keep
+abbrev pub kept_manifests : List Place → List ManifestFields
+kept_manifests places = map (λ (p : Place). arc_value p.manifest) places
+
+-- .. and those of lines
+abbrev pub line_manifests : List DeviceLine → List ManifestFields
+line_manifests lines = map (λ (d : DeviceLine). d.manifest) lines
+
 -- where a device stands
 abbrev pub place_at : DeviceLine → DevicePlace
 place_at d = record { host = d.host; lease = d.lease; names = d.manifest.names; keys = d.keys }
@@ -38,6 +48,7 @@ pub record IsMore (hosts : List ℕ) (opened : List DeviceLine) (old new : Draft
   pub caches : new.caches.items ≡ old.caches.items ++ map new_cache hosts
   pub devices : new.devices.items ≡ old.devices.items ++ map new_device opened
   pub places : map seen_place new.places.items ≡ map seen_place old.places.items ++ map place_at opened
+  pub manifests : kept_manifests new.places.items ≡ kept_manifests old.places.items ++ line_manifests opened
   pub keys : AllByRecursion (λ (d : DeviceLine). IsPlace (place_at d)) opened
 
 -- the line's device stands there
@@ -75,5 +86,6 @@ pub record HasDone {O : Type 0} (setup : List SetupSeen) (now : Seen O) (draft :
   pub ran : IsSetup (first_state now.start) [] lines now.log
   pub devices : draft.devices.items ≡ map new_device (devices_of lines)
   pub places : map seen_place draft.places.items ≡ map place_at (devices_of lines)
+  pub manifests : kept_manifests draft.places.items ≡ line_manifests (devices_of lines)
   pub caches : draft.caches.items ≡ map new_cache (capacities setup)
   pub keys : AllByRecursion (λ (d : DeviceLine). IsPlace (place_at d)) (devices_of lines)

@@ -1,5 +1,5 @@
 -- What the setup lines gave.
-use Rattle.std.specs.Prelude.{◌≡◌, ℕ, List, [], length, map, replicate}
+use Rattle.std.specs.Prelude.{◌≡◌, List, [], length, map, replicate}
 use Rattle.std.specs.List.{AllByRecursion}
 use Rattle.lr_depot.specs.Depot.{Seen, first_state}
 use Rattle.lr_depot.specs.Store.{IsRun}
@@ -11,7 +11,7 @@ use Rattle.lr_script.specs.Seen.{ScriptSeen}
 use Rattle.lr_setup.specs.Setup.{SetupLine, devices_of, IsSetup}
 use Rattle.lr_history.specs.Run.{DeviceLine}
 use Rattle.lr_prepare.specs.Lines.{unnumbered, capacities, AreDoneAs}
-use Rattle.lr_prepare.specs.New.{new_device, new_cache, new_node, place_at}
+use Rattle.lr_prepare.specs.New.{new_device, new_cache, new_node, place_at, kept_manifests, line_manifests}
 
 -- All setup lines were done: what they are to the depot, whose log has their entries alone, and what they made, all as new. Each device's
 -- place has a key for each chunk.
@@ -25,5 +25,6 @@ pub record IsPrepared {O : Type 0} (script : ScriptSeen) (depot : Seen O) (parts
   pub caches : parts.caches.items ≡ map new_cache (capacities (unnumbered script.setup))
   pub nodes : parts.nodes.items ≡ replicate script.nodes (new_node script.cap)
   pub shared : seen_context context ≡ record { devices = map place_at (devices_of lines); nodes = script.nodes }
+  pub manifests : kept_manifests context.devices.items ≡ line_manifests (devices_of lines)
   pub hosts : context.hosts ≡ length (capacities (unnumbered script.setup))
   pub keys : AllByRecursion (λ (d : DeviceLine). IsPlace (place_at d)) (devices_of lines)

@@ -50,6 +50,7 @@ Tells number reply Fault = IsFault reply
 Tells number reply (Spoiled key) = reply ≡ spoiled key
 Tells number reply OutOfMemory = IsPlain reply
 
+-- a reply stopped the rotation
 abbrev pub StopsRotation : ℕ → Reply → SetupError → Type 0
 StopsRotation number (rotated root) error = ⊥
 StopsRotation number reply error = Tells number reply error

@@ -76,7 +76,13 @@ fn create_of<O: Origin>(
     ensures fault { result ≡ Err error.Fault → Rose (O.faults depot.old.origin) (O.faults depot.new.origin) }
 {
     let mut source = MemSource::new(raw, Vec::new(alloc));
-    match create(alloc, depot, &mut source, image, TenantKey { bytes: tenant }) {
+    match create(
+        alloc,
+        depot,
+        &mut source,
+        image,
+        TenantKey { bytes: tenant },
+    ) {
         Created::Root(_) => Ok(()),
         Created::Refused(reply) => Err(error_of(line, reply)),
         Created::ReadFault => Err(SetupError::OutOfMemory),

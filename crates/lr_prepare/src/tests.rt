@@ -26,8 +26,7 @@ const SECOND: &str =
     "device e h b aaaaaaaaaaaaaaaaaaaaaaaaaaaaaaaaaaaaaaaaaaaaaaaaaaaaaaaaaaaaaaaa";
 
 // Under another tenant's key.
-const OTHER: &str =
-    "device d h a bbbbbbbbbbbbbbbbbbbbbbbbbbbbbbbbbbbbbbbbbbbbbbbbbbbbbbbbbbbbbbbb";
+const OTHER: &str = "device d h a bbbbbbbbbbbbbbbbbbbbbbbbbbbbbbbbbbbbbbbbbbbbbbbbbbbbbbbbbbbbbbbb";
 
 // What a script comes to: the bytes of its devices, its hosts and its nodes; or the line where it stops, and why.
 #[derive(Drop, Debug, PartialEq, Eq)]
@@ -42,7 +41,10 @@ const ROWS: &[Row] = &[
     (&[], End::Ready(0, 0, 5)),
     (&["nodes 7 3", HOST, "host i 1", ROOT], End::Ready(0, 2, 7)),
     (&[ROOT, IMAGE, HOST, DEVICE], End::Ready(8192, 1, 5)),
-    (&[HOST, ROOT, EMPTY, IMAGE, SECOND, DEVICE], End::Ready(8192, 1, 5)),
+    (
+        &[HOST, ROOT, EMPTY, IMAGE, SECOND, DEVICE],
+        End::Ready(8192, 1, 5),
+    ),
     (&[ROOT, IMAGE, ROOT, HOST, DEVICE], End::Ready(8192, 1, 5)),
     (&[IMAGE], End::Stopped(2, "no root")),
     (&["# two", "", ROOT, IMAGE, IMAGE], End::Stopped(6, "taken")),
@@ -125,7 +127,10 @@ fn faults(rt: HostRuntime) -> Result<(), Fail> {
             let came = prepares(alloc, origin, &text)?;
             let fault = End::Stopped(0, "fault");
             let whole = End::Ready(8192, 1, 5);
-            assert!(rt; came == if calls < 4 { fault } else { whole }, "{calls} {came:?}");
+            assert!(rt;
+                came == if calls < 4 { fault } else { whole },
+                "{calls} {came:?}"
+            );
         }
     }
     Ok(())

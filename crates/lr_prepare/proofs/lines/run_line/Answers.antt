@@ -1,4 +1,4 @@
-use Rattle.std.proofs.Common.{ℕ, subst, sym}
+use Rattle.std.proofs.Common.{subst, sym}
 use Rattle.std.proofs.lemmas.Result.{on_ok_weaker, IfErr-weaker}
 use Rattle.lr_script.specs.declared.script.Setup.{Setup}
 use Rattle.lr_script.specs.Seen.{setup_seen}

@@ -1,4 +1,4 @@
-use Rattle.std.proofs.Common.{◌≡◌, ℕ, List, length, refl, ap, subst, ◌∙◌, replicate}
+use Rattle.std.proofs.Common.{ℕ, List, refl, ap, subst, ◌∙◌, replicate}
 use Rattle.lr_script.specs.Seen.{ScriptSeen, SetupSeen}
 use Rattle.lr_prepare.specs.Lines.{seen_lines}
 use Rattle.lr_prepare.specs.Stopped.{IsLeft}

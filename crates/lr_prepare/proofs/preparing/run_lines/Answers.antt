@@ -1,4 +1,4 @@
-use Rattle.std.proofs.Common.{◌<◌, length, sym, arith}
+use Rattle.std.proofs.Common.{sym, arith}
 use Rattle.lr_prepare.proofs.Reached.{reached_more, left_at, room_at}
 use Rattle.lr_prepare.proofs.preparing.run_lines.Goals as goal
 
