@@ -1,0 +1,12 @@
+mod Givens
+mod Lists
+mod Casting
+mod Acting
+mod Counting
+mod Opened
+mod Fresh
+mod Beginning
+mod Told
+mod Growing
+mod Closed
+mod Playing

@@ -1,0 +1,4 @@
+pub mod Players
+pub mod Given
+pub mod Acting
+pub mod Played
