@@ -1,31 +1,28 @@
 -- the results of an actor that crashed, or whose trail is taken
-use Rattle.std.proofs.Common.{◌≡◌, ◌⊎◌, inl, inr, ◌≤◌, ◌<◌, ℕ, zero, suc, ◌+◌, ◌-◌, List, [], ◌∷◌, ◌++◌, length, take, Bool, true, false, Option, Some, None, refl, sym, ap, subst, ◌∙◌, arith, append-nil, length-append, eqb-true}
-use Rattle.std.specs.Prelude.{slice_get, vec_len, vec_capacity, ◌==◌}
+use Rattle.std.proofs.Common.{◌≡◌, inl, inr, ◌≤◌, ◌<◌, ℕ, ◌+◌, ◌-◌, List, [], ◌∷◌, ◌++◌, length, Bool, true, false, Option, Some, None, refl, sym, ap, subst, ◌∙◌, arith, append-nil, eqb-true}
+use Rattle.std.specs.Prelude.{slice_get, vec_len, ◌==◌}
 use Rattle.std.proofs.lemmas.Bool.{false≢true}
 use Rattle.std.specs.List.{AllByRecursion}
-use Rattle.std.proofs.lemmas.List.{append_assoc, length_push}
-use Rattle.lr_object.specs.declared.id.ObjectId.{ObjectId}
+use Rattle.std.proofs.lemmas.List.{append_assoc}
 use Rattle.lr_walk.specs.declared.trail.Answer.{Answer}
 use Rattle.lr_walk.specs.declared.trail.Answer.TheVariants.{Cut, Unbegun}
 use Rattle.lr_walk.specs.declared.trail.Did.{Did}
 use Rattle.lr_walk.specs.declared.trail.JobResult.{JobResult}
 use Rattle.lr_walk.specs.Jobs.{Context}
-use Rattle.lr_walk.specs.Trails.{Lists, Reads, places}
-use Rattle.lr_actors.specs.declared.trail.ActorState.{ActorState}
-use Rattle.lr_actors.specs.declared.trail.ActorState.TheVariants.{Ended, Crashed, Unfinished}
+use Rattle.lr_walk.specs.Trails.{Lists}
+use Rattle.lr_actors.specs.declared.trail.ActorState.TheVariants.{Crashed}
 use Rattle.lr_actors.specs.declared.book.Book.{Book}
 use Rattle.lr_actors.specs.declared.body.Setting.{Setting}
 use Rattle.lr_actors.specs.declared.body.Stage.{Stage}
 use Rattle.lr_actors.specs.declared.body.Stage.TheVariants.{Reaps}
 use Rattle.lr_actors.specs.Jobs.{Job}
 use Rattle.lr_actors.specs.Records.{HasWalk}
-use Rattle.lr_actors.specs.Accounts.{IsEnd}
-use Rattle.lr_actors.specs.Book.{account_of, IsBook, Finished}
+use Rattle.lr_actors.specs.Book.{Finished}
 use Rattle.lr_actors.specs.Actor.{AreEnded, AreCutOnce, FitsCrash, reap_count}
-use Rattle.lr_actors.specs.Body.{context_of, hosts_of, jobs_of, IsSetting, BookFits, HasEnded, IsBetween, StandsBook, ahead, Prepares, IsCutAt, Fills, AddsUnbegun, Crashes, CutsOne}
+use Rattle.lr_actors.specs.Body.{context_of, hosts_of, jobs_of, IsSetting, BookFits, HasEnded, IsBetween, ahead, Prepares, IsCutAt, Fills, AddsUnbegun, Crashes, CutsOne}
 use Rattle.lr_actors.proofs.Accounted.{has_trail}
 use Rattle.lr_actors.proofs.Keeping.{finished_stands}
-use Rattle.lr_actors.proofs.Going.{all_push, take_front, jobs_len, next_of, ahead_le, crashed_differs, empty_path, rest_whole}
+use Rattle.lr_actors.proofs.Going.{all_push, take_front, jobs_len, next_of, ahead_le, empty_path, rest_whole}
 
 -- ---- results
 

@@ -1,19 +1,16 @@
 -- an actor goes on: its jobs one after another, and its crash
-use Rattle.std.proofs.Common.{◌≡◌, ◌≢◌, ◌⊎◌, inl, inr, ◌≤◌, ◌<◌, ℕ, zero, suc, ◌+◌, ◌-◌, List, [], ◌∷◌, ◌++◌, length, take, drop, map, Bool, true, false, Option, Some, None, refl, sym, ap, subst, ◌∙◌, arith, append-nil, length-append}
-use Rattle.std.specs.Prelude.{slice_get, vec_len, vec_capacity, MatchOption}
+use Rattle.std.proofs.Common.{◌≡◌, ◌≤◌, ◌<◌, ℕ, zero, suc, ◌+◌, List, [], ◌∷◌, ◌++◌, length, take, drop, map, Option, Some, None, refl, sym, ap, subst, ◌∙◌, arith, append-nil}
+use Rattle.std.specs.Prelude.{slice_get, vec_len, MatchOption}
 use Rattle.std.specs.List.{AllByRecursion}
-use Rattle.std.proofs.lemmas.List.{append_assoc, length_push}
+use Rattle.std.proofs.lemmas.List.{length_push}
 use Rattle.lr_object.specs.declared.id.ObjectId.{ObjectId}
 use Rattle.lr_walk.specs.declared.trail.Answer.{Answer}
-use Rattle.lr_walk.specs.declared.trail.Answer.TheVariants.{NoChunk, Memory, Cut, Unbegun}
+use Rattle.lr_walk.specs.declared.trail.Answer.TheVariants.{NoChunk}
 use Rattle.lr_walk.specs.declared.trail.Did.{Did}
 use Rattle.lr_walk.specs.declared.trail.JobResult.{JobResult}
-use Rattle.lr_walk.specs.Steps.{Reply, by_cache, by_depot, Step}
-use Rattle.lr_walk.specs.Cache as caches
-use Rattle.lr_walk.specs.Depot as depots
+use Rattle.lr_walk.specs.Steps.{Step}
 use Rattle.lr_walk.specs.Jobs.{Context}
 use Rattle.lr_walk.specs.Trails.{Lists, Reads, places}
-use Rattle.lr_script.specs.declared.script.Job.{Job as Line}
 use Rattle.lr_actors.specs.declared.action.ActorCall.{ActorCall}
 use Rattle.lr_actors.specs.declared.trail.ActorState.{ActorState}
 use Rattle.lr_actors.specs.declared.trail.ActorState.TheVariants.{Ended, Crashed, Unfinished}
@@ -21,20 +18,18 @@ use Rattle.lr_actors.specs.declared.running.Running.{Running}
 use Rattle.lr_actors.specs.declared.book.Book.{Book}
 use Rattle.lr_actors.specs.declared.body.Setting.{Setting}
 use Rattle.lr_actors.specs.declared.body.Stage.{Stage}
-use Rattle.lr_actors.specs.declared.body.Stage.TheVariants.{Works, Idles, Reaps, Over}
-use Rattle.lr_actors.specs.Asked.{Asked, HandsCall, MayCall, Adds}
-use Rattle.lr_actors.specs.Running.{Task, Walk, task_of, asked, is_ready, Admits, StandsFor, steps_left, IsOut, Went}
+use Rattle.lr_actors.specs.declared.body.Stage.TheVariants.{Works, Idles, Over}
+use Rattle.lr_actors.specs.Asked.{HandsCall, MayCall}
+use Rattle.lr_actors.specs.Running.{Walk, task_of, asked, StandsFor, steps_left, IsOut}
 use Rattle.lr_actors.specs.Jobs.{Job, WalksJob, bound_of}
-use Rattle.lr_actors.specs.Begun.{IsJob, IsTask, IsBegun}
-use Rattle.lr_actors.specs.Records.{HasWalk}
-use Rattle.lr_actors.specs.Accounts.{Account, Stands, StandsAt, IsEnd}
-use Rattle.lr_actors.specs.Tally.{IsSized, KeepsSize}
-use Rattle.lr_actors.specs.Book.{account_of, IsBook, IsNewBook, Finished, HasRoom, SameBook}
-use Rattle.lr_actors.specs.Actor.{MayBeGiven, StandsReaped, AreEnded, AreCutOnce, FitsState, FitsCrash, IsUnderWay, bounds_of, reap_count, object_called, GrowsBy, Nears}
-use Rattle.lr_actors.specs.Body.{context_of, hosts_of, jobs_of, seen_with, IsSetting, BookFits, HasEnded, IsBetween, Next, StandsForSome, IsGoing, IsHeld, IsWorking, IsWhole, StandsBook, StandsStage, ahead, Skips, SkipsSome, Prepares, IsCutAt, Fills, AddsUnbegun, Crashes, EndsJob, IsSweep, IsNextCall, HasRoomUnless, GoesOn, steps_of, Steps, Takes, CutsOne}
+use Rattle.lr_actors.specs.Begun.{IsJob, IsBegun}
+use Rattle.lr_actors.specs.Accounts.{Stands, StandsAt, IsEnd}
+use Rattle.lr_actors.specs.Book.{IsBook, Finished, HasRoom, SameBook}
+use Rattle.lr_actors.specs.Actor.{MayBeGiven, FitsState, FitsCrash, IsUnderWay, bounds_of, object_called}
+use Rattle.lr_actors.specs.Body.{context_of, hosts_of, jobs_of, seen_with, IsSetting, BookFits, HasEnded, IsBetween, Next, StandsForSome, IsGoing, IsHeld, IsWhole, StandsBook, ahead, Skips, SkipsSome, Prepares}
 use Rattle.lr_actors.proofs.Accounted.{has_trail}
 use Rattle.lr_actors.proofs.Ended.{job_ends}
-use Rattle.lr_actors.proofs.UnderWay.{all_at, slice_get_lt, under_way, held, object_handed, is_call, sweep_stops, sweep_last}
+use Rattle.lr_actors.proofs.UnderWay.{all_at, slice_get_lt, under_way, held, object_handed}
 use Rattle.lr_actors.proofs.Keeping.{finished_stands, ended_walk}
 
 -- ---- lists

@@ -1,15 +1,14 @@
 -- the book of an actor: a step more, a result more
-use Rattle.std.proofs.Common.{◌≡◌, ◌⊎◌, inl, inr, ◌≤◌, ◌<◌, ℕ, zero, suc, ◌+◌, List, [], ◌∷◌, ◌++◌, length, take, drop, map, Bool, true, false, cond, not, ◌&&◌, Some, None, refl, sym, ap, subst, ◌∙◌, arith, append-nil, length-append}
-use Rattle.std.specs.Prelude.{slice_get, get_or, vec_len, vec_capacity, if◌then◌else◌}
-use Rattle.std.specs.List.{AllByRecursion, filter}
+use Rattle.std.proofs.Common.{◌≡◌, inl, inr, ◌≤◌, ℕ, suc, ◌+◌, List, [], ◌∷◌, ◌++◌, length, map, Bool, true, false, cond, not, ◌&&◌, Some, refl, sym, ap, subst, ◌∙◌, arith, append-nil, length-append}
+use Rattle.std.specs.Prelude.{slice_get, if◌then◌else◌}
+use Rattle.std.specs.List.{filter}
 use Rattle.std.proofs.lemmas.List.{append_assoc, length_push}
 use Rattle.lr_object.specs.declared.id.ObjectId.{ObjectId}
-use Rattle.lr_object.specs.declared.id.ObjectId.TheVariants.{Device, Cache, Node, Depot}
 use Rattle.lr_walk.specs.declared.trail.Answer.{Answer}
 use Rattle.lr_walk.specs.declared.trail.Answer.TheVariants.{Cut, Unbegun}
 use Rattle.lr_walk.specs.declared.trail.Did.{Did}
 use Rattle.lr_walk.specs.declared.trail.JobResult.{JobResult}
-use Rattle.lr_walk.specs.Steps.{on_device, on_depot, Reply, by_device, by_cache, by_node, by_depot, Step, step, object_of, is_memory}
+use Rattle.lr_walk.specs.Steps.{on_device, Reply, by_cache, Step, step, object_of, is_memory}
 use Rattle.lr_walk.specs.Cache as caches
 use Rattle.lr_walk.specs.Device as devices
 use Rattle.lr_walk.specs.Jobs.{Context}
@@ -31,13 +30,12 @@ use Rattle.lr_actors.specs.Forging as forging
 use Rattle.lr_actors.specs.Collecting as collecting
 use Rattle.lr_actors.specs.Migrating as migrating
 use Rattle.lr_actors.specs.Creating as creating
-use Rattle.lr_actors.specs.Running.{asked, Admits, StandsFor, Went}
+use Rattle.lr_actors.specs.Running.{asked, Admits, Went}
 use Rattle.lr_actors.specs.Jobs.{Job, WalksJob, IsWalk}
 use Rattle.lr_actors.specs.Records.{HasWalk}
 use Rattle.lr_actors.specs.Accounts.{Grows, Account, places_of, with_step, with_result, Stands, StandsAt, IsEnd}
 use Rattle.lr_actors.specs.Actor.{steps_in, IsCall, GrowsBy}
-use Rattle.lr_actors.specs.Tally.{count_of}
-use Rattle.lr_actors.specs.Book.{account_of, did_at, IsBook, TakesPlace, Noted, Finished}
+use Rattle.lr_actors.specs.Book.{account_of, did_at, IsBook, TakesPlace, Finished}
 use Rattle.lr_actors.specs.Body.{context_of, jobs_of, is_busy, object_asked, StandsBook, path_after, Writes}
 use Rattle.lr_actors.proofs.Accounted.{some_same, slice_get-more, reads_extended, places_end, walk_extended, places_more, stands_more, at_more, at_busy}
 

@@ -1,27 +1,25 @@
 -- a job under way takes a reply, and what comes next is prepared
-use Rattle.std.proofs.Common.{◌≡◌, ◌⊎◌, inl, inr, ◌≤◌, ◌<◌, ℕ, zero, suc, ◌+◌, ◌*◌, List, [], ◌∷◌, ◌++◌, length, Bool, true, false, Option, Some, None, refl, sym, ap, subst, ◌∙◌, arith}
-use Rattle.std.specs.Prelude.{slice_get, vec_len, vec_capacity, if◌then◌else◌}
+use Rattle.std.proofs.Common.{◌≡◌, inl, inr, ◌≤◌, ◌<◌, ℕ, ◌+◌, List, [], ◌∷◌, ◌++◌, length, Bool, true, false, Option, Some, None, refl, sym, ap, subst, ◌∙◌, arith}
+use Rattle.std.specs.Prelude.{slice_get, vec_len}
 use Rattle.std.proofs.lemmas.Bool.{false≢true}
 use Rattle.lr_spec.specs.Rose.{next_count}
 use Rattle.lr_object.specs.declared.id.ObjectId.{ObjectId}
 use Rattle.lr_object.specs.declared.id.ObjectId.TheVariants.{Device, Cache, Node, Depot}
 use Rattle.lr_walk.specs.declared.trail.Answer.{Answer}
-use Rattle.lr_walk.specs.declared.trail.Answer.TheVariants.{Memory, Cut}
+use Rattle.lr_walk.specs.declared.trail.Answer.TheVariants.{Memory}
 use Rattle.lr_walk.specs.declared.trail.Did.{Did}
-use Rattle.lr_walk.specs.declared.trail.JobResult.{JobResult}
-use Rattle.lr_walk.specs.Steps.{Reply, by_device, by_cache, by_node, by_depot, Step, is_memory}
+use Rattle.lr_walk.specs.Steps.{Reply, by_cache, by_depot, Step, is_memory}
 use Rattle.lr_walk.specs.Cache as caches
 use Rattle.lr_walk.specs.Depot as depots
 use Rattle.lr_walk.specs.Jobs.{Context}
-use Rattle.lr_walk.specs.Trails.{Lists, Reads}
+use Rattle.lr_walk.specs.Trails.{Lists}
 use Rattle.lr_loader.specs.Progress as loads
 use Rattle.lr_collector.specs.Progress as collections
 use Rattle.lr_migrator.specs.Progress as migrations
 use Rattle.lr_creator.specs.Progress as creations
 use Rattle.lr_actors.specs.declared.action.ActorCall.{ActorCall}
-use Rattle.lr_actors.specs.declared.trail.ActorState.{ActorState}
 use Rattle.lr_actors.specs.declared.trail.Trail.{Trail}
-use Rattle.lr_actors.specs.declared.trail.ActorState.TheVariants.{Ended, Crashed, Unfinished}
+use Rattle.lr_actors.specs.declared.trail.ActorState.TheVariants.{Ended, Unfinished}
 use Rattle.lr_actors.specs.declared.single.Single.{Single}
 use Rattle.lr_actors.specs.declared.running.Running.{Running}
 use Rattle.lr_actors.specs.declared.running.Running.TheVariants.{Serves, Makes, Forges, Collects, Migrates, Creates}
@@ -31,7 +29,7 @@ use Rattle.lr_actors.specs.declared.body.Setting.{Setting}
 use Rattle.lr_actors.specs.declared.body.Working.{Working}
 use Rattle.lr_actors.specs.declared.body.Stage.{Stage}
 use Rattle.lr_actors.specs.declared.body.Stage.TheVariants.{Works}
-use Rattle.lr_actors.specs.Asked.{Asked, HandsCall, MayCall, Adds}
+use Rattle.lr_actors.specs.Asked.{HandsCall, MayCall}
 use Rattle.lr_actors.specs.Serving as serving
 use Rattle.lr_actors.specs.Singles as singles
 use Rattle.lr_actors.specs.Forging as forging
@@ -40,19 +38,18 @@ use Rattle.lr_actors.specs.Migrating as migrating
 use Rattle.lr_actors.specs.Creating as creating
 use Rattle.lr_actors.specs.Bounds.{collects_left, moves_ahead, puts_left}
 use Rattle.lr_actors.specs.Running.{Task, Walk, task_of, asked, Admits, StandsFor, steps_left, Nears, IsOut, Went}
-use Rattle.lr_actors.specs.Jobs.{Job, WalksJob, bound_of}
-use Rattle.lr_actors.specs.Begun.{IsContext, IsTask, IsTaskOf}
-use Rattle.lr_actors.specs.Records.{HasWalk}
+use Rattle.lr_actors.specs.Jobs.{Job, WalksJob}
+use Rattle.lr_actors.specs.Begun.{IsTask, IsTaskOf}
 use Rattle.lr_actors.specs.Accounts.{StandsAt, IsEnd}
 use Rattle.lr_actors.specs.Tally.{Has, IsSized, KeepsSize}
-use Rattle.lr_actors.specs.Book.{account_of, did_at, IsBook, Noted, Finished, HasRoom, SameBook}
+use Rattle.lr_actors.specs.Book.{IsBook, Noted, Finished, HasRoom, SameBook}
 use Rattle.lr_actors.specs.Actor.{IsWithin, IsCall, AreEnded, FitsCrash, IsUnderWay, object_called, GrowsBy}
 use Rattle.lr_actors.specs.Actor as actor
-use Rattle.lr_actors.specs.Body.{context_of, hosts_of, jobs_of, seen_with, is_busy, is_removal, object_asked, IsSetting, BookFits, HasEnded, IsBetween, Next, StandsForSome, IsGoing, IsWorking, StandsBook, ahead, Prepares, IsCutAt, Crashes, EndsJob, IsSweep, IsNextCall, HasRoomUnless, GoesOn, steps_of, path_after, Writes, Steps, Takes}
+use Rattle.lr_actors.specs.Body.{context_of, hosts_of, jobs_of, is_busy, is_removal, object_asked, IsSetting, HasEnded, Next, StandsForSome, IsGoing, IsWorking, ahead, Prepares, IsCutAt, Crashes, EndsJob, IsSweep, IsNextCall, GoesOn, steps_of, Writes, Steps, Takes}
 use Rattle.lr_actors.proofs.Ended.{job_ends}
-use Rattle.lr_actors.proofs.UnderWay.{cut_walk, removal_sweeps, sweep_last, sweep_stops, is_call, asked_within, under_way, held}
+use Rattle.lr_actors.proofs.UnderWay.{cut_walk, removal_sweeps, sweep_last, sweep_stops, asked_within, under_way, held}
 use Rattle.lr_actors.proofs.Keeping.{finished_stands, ended_walk, adds_some, written_stands}
-use Rattle.lr_actors.proofs.Going.{next_lt, given_at, has_same, next_same, stands_as, at_as, between_more, results_more, works_whole}
+use Rattle.lr_actors.proofs.Going.{next_lt, given_at, next_same, stands_as, at_as, results_more, works_whole}
 
 -- ---- the job under way ends
 

@@ -1,22 +1,19 @@
 -- a job under way: its call stands within the context, and a reply may always come
-use Rattle.std.proofs.Common.{◌≡◌, ◌<◌, ◌≤◌, ℕ, zero, suc, List, [], ◌∷◌, ◌++◌, length, inr, Option, Some, None, refl, sym, ap, subst, ◌∙◌, arith, true, false}
+use Rattle.std.proofs.Common.{◌≡◌, ◌<◌, ◌≤◌, ℕ, zero, suc, List, [], ◌∷◌, ◌++◌, length, inr, Some, refl, sym, ap, subst, ◌∙◌, arith}
 use Rattle.std.specs.Prelude.{slice_get}
 use Rattle.std.specs.List.{AllByRecursion}
 use Rattle.std.proofs.lemmas.List.{append_assoc}
-use Rattle.lr_object.specs.declared.id.ObjectId.{ObjectId}
 use Rattle.lr_object.specs.declared.id.ObjectId.TheVariants.{Device, Cache, Node, Depot}
 use Rattle.lr_manifest.specs.declared.name.Name.{Name}
-use Rattle.lr_stripe.specs.declared.stripe.Stripe.{Stripe}
 use Rattle.lr_device.specs.declared.call.DeviceReply.TheVariants as told
 use Rattle.lr_device.specs.declared.step.DeviceStep.TheVariants as asks
 use Rattle.lr_walk.specs.declared.place.LoadPlace.{LoadPlace}
-use Rattle.lr_walk.specs.declared.trail.Answer.{Answer}
 use Rattle.lr_walk.specs.declared.trail.Answer.TheVariants.{Memory, Cut}
 use Rattle.lr_walk.specs.declared.trail.Did.{Did}
 use Rattle.lr_walk.specs.Stands.{IsFront}
-use Rattle.lr_walk.specs.Steps.{Call, on_device, on_cache, on_node, on_depot, Reply, by_device, by_cache, by_node, by_depot, Step, step, object_of}
+use Rattle.lr_walk.specs.Steps.{on_depot, Reply, by_device, by_cache, by_node, by_depot, Step, object_of}
 use Rattle.lr_walk.specs.Stripes.{node_at}
-use Rattle.lr_walk.specs.Calls.{DevicePlace, load_place}
+use Rattle.lr_walk.specs.Calls.{DevicePlace}
 use Rattle.lr_walk.specs.Jobs.{Context}
 use Rattle.lr_walk.specs.Trails.{Lists, Reads}
 use Rattle.lr_walk.specs.Depot as depots
@@ -30,14 +27,12 @@ use Rattle.lr_collector.specs.declared.collect.CollectJob.TheVariants as collect
 use Rattle.lr_collector.specs.Progress as collections
 use Rattle.lr_migrator.specs.Progress as migrations
 use Rattle.lr_creator.specs.Progress as creations
-use Rattle.lr_depot.specs.declared.call.DepotCall.TheVariants as depot
 use Rattle.lr_actors.specs.declared.action.ActorCall.{ActorCall}
 use Rattle.lr_actors.specs.declared.action.ActorCall.TheVariants as call
 use Rattle.lr_actors.specs.declared.single.Single.{Single}
 use Rattle.lr_actors.specs.declared.single.Single.TheVariants as one
 use Rattle.lr_actors.specs.declared.running.Running.{Running}
 use Rattle.lr_actors.specs.declared.running.Running.TheVariants.{Serves, Makes, Forges, Collects, Migrates, Creates}
-use Rattle.lr_actors.specs.declared.running.JobTurn.TheVariants as turn
 use Rattle.lr_actors.specs.Asked.{Asked, a_call, a_commit, an_end, no_call, HandsCall, MayCall, Adds}
 use Rattle.lr_actors.specs.Serving as serving
 use Rattle.lr_actors.specs.Singles as singles
@@ -46,7 +41,7 @@ use Rattle.lr_actors.specs.Collecting as collecting
 use Rattle.lr_actors.specs.Migrating as migrating
 use Rattle.lr_actors.specs.Creating as creating
 use Rattle.lr_actors.specs.Bounds.{collects_left}
-use Rattle.lr_actors.specs.Running.{Task, serves, makes, forges, collects, migrates, creates, Walk, task_of, asked, Admits, StandsFor, IsAtHome, steps_left, IsOut, HandsOut}
+use Rattle.lr_actors.specs.Running.{Task, serves, makes, forges, collects, Walk, task_of, asked, Admits, StandsFor, IsAtHome, steps_left, IsOut}
 use Rattle.lr_actors.specs.Jobs.{Job, WalksJob}
 use Rattle.lr_actors.specs.Jobs as jobs
 use Rattle.lr_actors.specs.Begun.{IsContext, IsTask, IsTaskOf}

@@ -1,24 +1,21 @@
 -- a whole actor: what its calls say
-use Rattle.std.proofs.Common.{◌≡◌, ◌≢◌, ◌⊎◌, inl, inr, ◌≤◌, ◌<◌, ℕ, zero, suc, ◌+◌, ◌-◌, List, [], ◌∷◌, ◌++◌, length, take, drop, Bool, true, false, cond, Option, Some, None, refl, sym, ap, subst, ◌∙◌, arith, append-nil}
-use Rattle.std.specs.Prelude.{slice_get, vec_len, vec_capacity, nat_lt, if◌then◌else◌}
+use Rattle.std.proofs.Common.{◌≡◌, ◌⊎◌, inl, inr, ◌≤◌, ◌<◌, ℕ, zero, suc, ◌+◌, ◌-◌, List, [], ◌∷◌, ◌++◌, length, take, drop, Bool, true, false, cond, Option, Some, None, refl, sym, ap, subst, ◌∙◌, arith, append-nil}
+use Rattle.std.specs.Prelude.{vec_len, nat_lt, if◌then◌else◌}
 use Rattle.std.specs.Arc.{arc_value}
-use Rattle.std.specs.List.{AllByRecursion, AllZip}
-use Rattle.std.proofs.lemmas.Bool.{false≢true}
+use Rattle.std.specs.List.{AllZip}
 use Rattle.std.proofs.lemmas.List.{length-map}
 use borrow.Author.Tests.{ltb-true, ltb-false}
 use Rattle.lr_spec.specs.Rose.{next_count}
 use Rattle.lr_object.specs.declared.id.ObjectId.{ObjectId}
 use Rattle.lr_object.specs.declared.id.ObjectId.TheVariants.{Device, Cache, Node, Depot}
-use Rattle.lr_walk.specs.declared.trail.Answer.{Answer}
 use Rattle.lr_walk.specs.declared.trail.Answer.TheVariants.{NoChunk}
 use Rattle.lr_walk.specs.declared.trail.JobResult.{JobResult}
-use Rattle.lr_walk.specs.Stands.{IsFront}
-use Rattle.lr_walk.specs.Steps.{Call, Reply, by_device, by_cache, by_node, by_depot, Step, step, object_of, is_memory, Answers}
+use Rattle.lr_walk.specs.Steps.{Call, Reply, by_device, by_cache, by_depot, Step, step, object_of, is_memory}
 use Rattle.lr_walk.specs.Cache as caches
 use Rattle.lr_walk.specs.Depot as depots
 use Rattle.lr_walk.specs.Device as devices
 use Rattle.lr_walk.specs.Jobs.{Context}
-use Rattle.lr_walk.specs.Trails.{Lists, is_same, Reads, places, AreCounted, IsReap, AreReaps}
+use Rattle.lr_walk.specs.Trails.{Lists, is_same, places, IsReap, AreReaps}
 use Rattle.lr_actors.specs.declared.trail.ActorState.{ActorState}
 use Rattle.lr_actors.specs.declared.trail.ActorState.TheVariants.{Ended, Crashed, Unfinished}
 use Rattle.lr_actors.specs.declared.running.Running.{Running}
@@ -27,20 +24,17 @@ use Rattle.lr_actors.specs.declared.body.Setting.{Setting}
 use Rattle.lr_actors.specs.declared.body.Working.{Working}
 use Rattle.lr_actors.specs.declared.body.Stage.{Stage}
 use Rattle.lr_actors.specs.declared.body.Stage.TheVariants.{Works, Idles, Reaps, Over}
-use Rattle.lr_actors.specs.Asked.{Adds}
-use Rattle.lr_actors.specs.Running.{asked, steps_left}
-use Rattle.lr_actors.specs.Running as running
-use Rattle.lr_actors.specs.Jobs.{Job, WalksJob, bound_of}
+use Rattle.lr_actors.specs.Running.{steps_left}
+use Rattle.lr_actors.specs.Jobs.{Job}
 use Rattle.lr_actors.specs.Records.{HasWalk, HasTrail}
-use Rattle.lr_actors.specs.Accounts.{Account, Grows, Stands, StandsAt}
-use Rattle.lr_actors.specs.Tally.{IsSized}
-use Rattle.lr_actors.specs.Book.{account_of, IsBook, IsNewBook}
+use Rattle.lr_actors.specs.Accounts.{Grows, Stands}
+use Rattle.lr_actors.specs.Book.{IsNewBook}
 use Rattle.lr_actors.specs.Actor.{works, Seen, IsUnreaped, reap_count, reap_at, reap_place, reap_of, StandsReaped, reaps_of, StandsNow, StandsFor, steps_in, steps_made, AreEnded, AreCutOnce, FitsState, FitsCrash, NextJob, FitsNow, IsActor, bounds_of, reaps_ahead, left, IsNew, Fronts, GrowsBy, Gains, adds_one, Nears, Took, Passed}
 use Rattle.lr_actors.specs.Actor as actor
 use Rattle.lr_actors.specs.Trailed.{IsTrailOf}
-use Rattle.lr_actors.specs.Body.{context_of, hosts_of, jobs_of, seen_with, now_of, IsSetting, BookFits, HasEnded, IsBetween, Next, IsWorking, IsStage, IsWhole, StandsBook, ahead, Prepares, IsCutAt, Fills, EndsJob, steps_of, Takes, after_reap}
-use Rattle.lr_actors.proofs.Accounted.{reads_extended, walk_extended, same_is, same-refl, extends_by, drop_all, has_trail, stands_new, Extends}
-use Rattle.lr_actors.proofs.Going.{take_front, jobs_len, next_lt, ahead_at, bound_some, no_steps}
+use Rattle.lr_actors.specs.Body.{context_of, hosts_of, jobs_of, seen_with, HasEnded, IsBetween, IsWhole, StandsBook, ahead, Prepares, IsCutAt, Fills, EndsJob, steps_of, Takes, after_reap}
+use Rattle.lr_actors.proofs.Accounted.{walk_extended, same_is, extends_by, has_trail, stands_new, Extends}
+use Rattle.lr_actors.proofs.Going.{take_front, jobs_len, ahead_at, bound_some, no_steps}
 use Rattle.lr_actors.proofs.Ending.{ended_once}
 use Rattle.lr_actors.proofs.Taking.{cut_at, with_steps}
 

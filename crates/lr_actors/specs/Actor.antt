@@ -1,15 +1,13 @@
 -- An actor, as contracts see it: what it does now, for which lists it stands, and how many steps it may still make.
-use Rattle.std.specs.Prelude.{◌≡◌, ◌≢◌, ◌⊎◌, ◌≤◌, ◌<◌, ◌+◌, ◌-◌, ℕ, suc, List, [], ◌∷◌, ◌++◌, length, drop, Bool, true, false, nat_lt, if◌then◌else◌, Option, Some, None, slice_get, ⊤}
+use Rattle.std.specs.Prelude.{◌≡◌, ◌≢◌, ◌⊎◌, ◌≤◌, ◌<◌, ◌+◌, ◌-◌, ℕ, List, [], ◌∷◌, ◌++◌, length, drop, Bool, true, false, nat_lt, if◌then◌else◌, Option, Some, None, slice_get, ⊤}
 use Rattle.std.specs.List.{AllByRecursion}
 use Rattle.lr_spec.specs.Rose.{next_count}
 use Rattle.lr_object.specs.declared.id.ObjectId.{ObjectId}
 use Rattle.lr_object.specs.declared.id.ObjectId.TheVariants.{Device, Cache, Node, Depot}
-use Rattle.lr_walk.specs.declared.trail.Answer.{Answer}
 use Rattle.lr_walk.specs.declared.trail.Answer.TheVariants.{NoChunk, Unbegun}
-use Rattle.lr_walk.specs.declared.trail.Did.{Did}
 use Rattle.lr_walk.specs.declared.trail.JobResult.{JobResult}
 use Rattle.lr_walk.specs.Stands.{IsFront}
-use Rattle.lr_walk.specs.Steps.{Call, on_device, on_cache, on_node, on_depot, Reply, by_device, by_cache, by_depot, Step, step, object_of, is_memory, Answers}
+use Rattle.lr_walk.specs.Steps.{Call, on_device, on_cache, on_depot, Reply, by_device, by_cache, by_depot, Step, step, is_memory, Answers}
 use Rattle.lr_walk.specs.Calls.{DevicePlace}
 use Rattle.lr_walk.specs.Jobs.{Context}
 use Rattle.lr_walk.specs.Trails.{Lists, Reads, places}
@@ -25,7 +23,7 @@ use Rattle.lr_actors.specs.declared.trail.ActorState.TheVariants.{Ended, Crashed
 use Rattle.lr_actors.specs.declared.actor.ActorAction.{ActorAction}
 use Rattle.lr_actors.specs.declared.actor.ActorAction.TheVariants as action
 use Rattle.lr_actors.specs.declared.running.Running.{Running}
-use Rattle.lr_actors.specs.Asked.{Asked, a_call, a_commit, an_end, no_call, HandsCall, MayCall, Adds}
+use Rattle.lr_actors.specs.Asked.{Asked, a_call, a_commit, no_call, HandsCall, MayCall, Adds}
 use Rattle.lr_actors.specs.Running as running
 use Rattle.lr_actors.specs.Running.{task_of, asked, is_ready, IsAtHome, steps_left}
 use Rattle.lr_actors.specs.Jobs.{Job, evicts, loses, closes, WalksJob, bound_of}

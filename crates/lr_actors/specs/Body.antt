@@ -1,5 +1,5 @@
 -- What the code of an actor keeps, and how it goes on.
-use Rattle.std.specs.Prelude.{◌≡◌, ◌⊎◌, ◌≤◌, ◌<◌, ◌+◌, ℕ, List, [], ◌∷◌, ◌++◌, length, drop, take, Bool, true, false, nat_lt, is_none, IfSome, if◌then◌else◌, Option, Some, None, slice_get, vec_len, vec_capacity, ⊤}
+use Rattle.std.specs.Prelude.{◌≡◌, ◌⊎◌, ◌≤◌, ◌<◌, ◌+◌, ℕ, List, [], ◌∷◌, ◌++◌, length, take, Bool, true, false, nat_lt, is_none, IfSome, if◌then◌else◌, Some, slice_get, vec_len, vec_capacity, ⊤}
 use Rattle.std.specs.Arc.{arc_value}
 use Rattle.std.specs.List.{AllByRecursion}
 use Rattle.lr_spec.specs.Rose.{next_count}
@@ -7,7 +7,7 @@ use Rattle.lr_object.specs.declared.id.ObjectId.{ObjectId}
 use Rattle.lr_walk.specs.declared.trail.Answer.{Answer}
 use Rattle.lr_walk.specs.declared.trail.Answer.TheVariants.{Memory, Cut, Unbegun}
 use Rattle.lr_walk.specs.declared.trail.JobResult.{JobResult}
-use Rattle.lr_walk.specs.Steps.{Call, on_device, on_cache, on_node, on_depot, Reply, by_cache, by_depot, Step, object_of, is_memory}
+use Rattle.lr_walk.specs.Steps.{Reply, by_cache, by_depot, Step, object_of, is_memory}
 use Rattle.lr_walk.specs.Depot as depots
 use Rattle.lr_walk.specs.Cache as caches
 use Rattle.lr_walk.specs.Jobs.{Context}
@@ -18,8 +18,7 @@ use Rattle.lr_depot.specs.declared.call.DepotCall.TheVariants as depot
 use Rattle.lr_actors.specs.declared.action.ActorCall.TheVariants as call
 use Rattle.lr_object.specs.declared.id.ObjectId.TheVariants.{Device, Node, Depot}
 use Rattle.lr_actors.specs.declared.action.ActorCall.{ActorCall}
-use Rattle.lr_actors.specs.declared.trail.ActorState.{ActorState}
-use Rattle.lr_actors.specs.declared.trail.ActorState.TheVariants.{Ended, Crashed, Unfinished}
+use Rattle.lr_actors.specs.declared.trail.ActorState.TheVariants.{Unfinished}
 use Rattle.lr_actors.specs.declared.running.Running.{Running}
 use Rattle.lr_actors.specs.declared.book.Book.{Book}
 use Rattle.lr_actors.specs.declared.body.Setting.{Setting}
@@ -28,7 +27,7 @@ use Rattle.lr_actors.specs.declared.body.Stage.{Stage}
 use Rattle.lr_actors.specs.declared.body.Stage.TheVariants as stage
 use Rattle.lr_actors.specs.declared.body.Body.{Body}
 use Rattle.lr_actors.specs.declared.body.Handed.{Handed}
-use Rattle.lr_actors.specs.Asked.{Asked, a_call, a_commit, an_end, no_call, HandsCall, MayCall, Adds}
+use Rattle.lr_actors.specs.Asked.{Asked, a_call, a_commit, HandsCall, MayCall, Adds}
 use Rattle.lr_actors.specs.Running.{Task, collects, task_of, asked, IsAtHome, StandsFor, steps_left, Went}
 use Rattle.lr_actors.specs.Jobs.{Job, seen_context, WalksJob, bound_of}
 use Rattle.lr_actors.specs.Begun.{IsContext, IsTask, IsTaskOf}
@@ -36,7 +35,7 @@ use Rattle.lr_actors.specs.Records.{HasWalk}
 use Rattle.lr_actors.specs.Accounts.{Stands, StandsAt}
 use Rattle.lr_actors.specs.Tally.{IsSized, KeepsSize}
 use Rattle.lr_actors.specs.Book.{account_of, did_at, IsBook, HasRoom}
-use Rattle.lr_actors.specs.Actor.{Now, works, idles, reaps, over, Seen, AreHosted, MayBeGiven, StandsNow, AreEnded, AreCutOnce, FitsState, FitsCrash, IsUnderWay, NextJob, FitsNow, left, jobs_ahead, IsWithin, reap_count, object_called, ClosesFor, is_out, Hands, GrowsBy, Nears}
+use Rattle.lr_actors.specs.Actor.{Now, works, idles, reaps, over, Seen, AreHosted, MayBeGiven, StandsNow, AreEnded, AreCutOnce, FitsState, FitsCrash, IsUnderWay, FitsNow, left, jobs_ahead, IsWithin, reap_count, object_called, ClosesFor, is_out, Hands, GrowsBy, Nears}
 use Rattle.lr_actors.specs.Trailed.{jobs_seen}
 
 -- ---- what contracts see

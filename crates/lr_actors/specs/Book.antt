@@ -1,5 +1,5 @@
 -- What is written down of an actor, as contracts see it.
-use Rattle.std.specs.Prelude.{◌≡◌, ◌+◌, ◌≤◌, ℕ, List, [], ◌∷◌, ◌++◌, length, Bool, cond, vec_len, vec_capacity}
+use Rattle.std.specs.Prelude.{◌≡◌, ◌+◌, ◌≤◌, ℕ, [], ◌∷◌, ◌++◌, length, Bool, cond, vec_len, vec_capacity}
 use Rattle.lr_object.specs.declared.id.ObjectId.{ObjectId}
 use Rattle.lr_walk.specs.declared.trail.Answer.{Answer}
 use Rattle.lr_walk.specs.declared.trail.Did.{Did}

@@ -1,8 +1,7 @@
 -- What an actor's trail says.
-use Rattle.std.specs.Prelude.{◌≡◌, ℕ, List, [], ◌∷◌, ◌++◌, length, drop, map, take}
+use Rattle.std.specs.Prelude.{◌≡◌, List, length, map, take}
 use Rattle.lr_script.specs.declared.script.Job.{Job as Line}
 use Rattle.lr_script.specs.Seen.{job_seen}
-use Rattle.lr_walk.specs.declared.trail.JobResult.{JobResult}
 use Rattle.lr_walk.specs.Trails.{Lists}
 use Rattle.lr_actors.specs.declared.trail.Trail.{Trail}
 use Rattle.lr_actors.specs.Jobs.{Job, job_of}

@@ -4,11 +4,12 @@
 //! call, with `turns` for what it keeps between a call and its reply; `single` an eviction, damage to one stripe or node, and the
 //! end of a lease; `forge` a forging; `collecting`, `migrating` and `creating` what the machines of the depot do, with `bytes` for
 //! what a script says of an image. `laws` ties each machine to its job. `begin` is how each job of a script begins, `running` a job
-//! under way of any kind, and `accounts` has what follows for the lists of an actor that runs jobs. In `specs/`, `Jobs` is the table of jobs with the
+//! under way of any kind, and `accounts` has what follows for the lists of an actor that runs jobs. `actor` is an actor, whose work
+//! stands in `body`: `trail` is what is kept of it, `book` that with the path of the job under way, `tally` the counts of entries. In `specs/`, `Jobs` is the table of jobs with the
 //! walk of each, `Records` what an actor's trail is, `Asked` what a job asks and what that adds to its steps, and `Serving`,
 //! `Singles`, `Forging`, `Lifted`, `Collecting`, `Migrating` and `Creating` what contracts see of each machine. `Bounds` says how
-//! many steps the jobs of the depot make, `Begun` and `Running` what contracts see of jobs of any kind, and `Accounts` what an
-//! actor's account is.
+//! many steps the jobs of the depot make, `Begun` and `Running` what contracts see of jobs of any kind, `Accounts` what an
+//! actor's account is, `Actor` and `Trailed` what contracts see of an actor, and `Tally`, `Book` and `Body` what its code keeps.
 #![tactic(auto)]
 
 mod accounts;

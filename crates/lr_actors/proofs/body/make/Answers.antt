@@ -1,10 +1,9 @@
-use Rattle.std.proofs.Common.{◌≡◌, ◌≤◌, ◌∙◌, ℕ, length, vec_len, sym, ap, refl, arith}
-use Rattle.std.specs.Arc.{arc_value}
+use Rattle.std.proofs.Common.{◌≡◌, length, vec_len, ap, arith}
 use Rattle.lr_actors.specs.declared.place.Context.{Context as Kept}
 use Rattle.lr_actors.specs.declared.body.Setting.{Setting}
 use Rattle.lr_actors.specs.Body.{context_of, hosts_of}
 use Rattle.lr_actors.specs.Book.{IsNewBook}
-use Rattle.lr_actors.proofs.Whole.{new_between, new_crash, is_new, book_as, context_len}
+use Rattle.lr_actors.proofs.Whole.{new_between, new_crash, book_as, context_len}
 use Rattle.lr_actors.proofs.body.make.Goals as goal
 
 pub settle-stage-requires : goal.settle-stage-requires

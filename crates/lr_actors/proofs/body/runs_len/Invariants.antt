@@ -1,4 +1,4 @@
-use Rattle.std.proofs.Common.{◌≡◌, ◌+◌, length, drop, take}
+use Rattle.std.proofs.Common.{◌≡◌, ◌+◌, length, drop}
 use Rattle.lr_text.specs.Bytes.{bytes_of_runs}
 use Rattle.lr_actors.proofs.body.runs_len.Given as goal
 

@@ -1,4 +1,4 @@
-use Rattle.lr_actors.proofs.Going.{started, begun_ends}
+use Rattle.lr_actors.proofs.Going.{started}
 use Rattle.lr_actors.proofs.body.start.Goals as goal
 
 pub returns-in-Goes : goal.returns-in-Goes

@@ -1,4 +1,3 @@
-use Rattle.std.proofs.Common.{rules}
 use Rattle.lr_actors.specs.Jobs.{Job}
 use Rattle.lr_actors.specs.Body.{context_of, hosts_of, IsNextCall}
 use Rattle.lr_actors.proofs.Going.{has_same, next_same}

@@ -1,5 +1,4 @@
-use Rattle.std.proofs.Common.{◌≡◌, refl, sym, ap, ◌∙◌, arith, ℕ, List, [], ◌∷◌, ◌++◌}
-use Rattle.lr_walk.specs.declared.trail.Did.{Did}
+use Rattle.std.proofs.Common.{◌≡◌, refl, ap, ◌∙◌, arith, ℕ, [], ◌∷◌, ◌++◌}
 use Rattle.lr_actors.specs.Book.{account_of, did_at}
 use Rattle.lr_actors.proofs.Keeping.{few_places, book_noted, place_taken, place_is}
 use Rattle.lr_actors.proofs.book.note.Goals as goal
