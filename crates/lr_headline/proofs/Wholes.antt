@@ -155,11 +155,11 @@ trails : Seen → (c : Closing) (opening closing : Store) → IsClosing c
     → AllByRecursion (λ (a : ActorSeen). HasTrailSeen (context_of (run_of c opening closing)) (own (run_of c opening closing) a.number) a.jobs a.results) (map actor_seen c.actors)
 trails seen c opening closing k =
     all_by (λ (a : ActorSeen). HasTrailSeen c.context (own_lists c.objects a.number) a.jobs a.results)
-      (λ (a : ActorSeen). HasTrailSeen (context_of (run_of c opening closing)) (own (run_of c opening closing) a.number) a.jobs a.results)
-      (λ a h. subst (λ (l : Lists). HasTrailSeen (context_of (run_of c opening closing)) l a.jobs a.results) (sym (own_is c opening closing k a.number))
-        (subst (λ (x : Context). HasTrailSeen x (own_lists c.objects a.number) a.jobs a.results) (sym (context_same c opening closing k)) h))
-      (map actor_seen c.actors)
-      (all_trails seen c.context c.hosts c.objects c.actors k.given k.trails)
+    (λ (a : ActorSeen). HasTrailSeen (context_of (run_of c opening closing)) (own (run_of c opening closing) a.number) a.jobs a.results)
+    (λ a h. subst (λ (l : Lists). HasTrailSeen (context_of (run_of c opening closing)) l a.jobs a.results) (sym (own_is c opening closing k a.number))
+    (subst (λ (x : Context). HasTrailSeen x (own_lists c.objects a.number) a.jobs a.results) (sym (context_same c opening closing k)) h))
+    (map actor_seen c.actors)
+    (all_trails seen c.context c.hosts c.objects c.actors k.given k.trails)
 
 numbers_same : (actors : List Left) → premises.numbers (map actor_seen actors) ≡ numbers_of actors
 numbers_same actors = map_map actor_seen (λ (a : ActorSeen). a.number) actors
@@ -167,14 +167,14 @@ numbers_same actors = map_map actor_seen (λ (a : ActorSeen). a.number) actors
 callers_of : {N T : Type 0} (actors : List Left) (objects : List (Sized N T)) (i : ℕ) (s : Sized N T) → AreOf actors objects → slice_get objects i ≡ Some s → AreCallers (map actor_seen actors) s.log
 callers_of {N} {T} actors objects i s h e =
     subst (λ (l : List ℕ). AllByRecursion (λ (x : Entry N T). Contains l x.caller) s.log) (sym (numbers_same actors))
-      (all_get (λ (x : Sized N T). AllByRecursion (λ (y : Entry N T). Contains (numbers_of actors) y.caller) x.log) objects i s h e)
+    (all_get (λ (x : Sized N T). AllByRecursion (λ (y : Entry N T). Contains (numbers_of actors) y.caller) x.log) objects i s h e)
 
 pub is_run : Seen → (c : Closing) (opening closing : Store) → IsClosing c → IsRun (run_of c opening closing)
 is_run seen c opening closing k = record {
-    callers = λ i s e. let at = seen_at (devices_of c.lines) c.objects.devices i s e in
+  callers = λ i s e. let at = seen_at (devices_of c.lines) c.objects.devices i s e in
       subst (λ l. AreCallers (map actor_seen c.actors) l) (sym at.3) (callers_of c.actors c.objects.devices i at.0 k.devices at.1);
-    trails = trails seen c opening closing k;
-  }
+  trails = trails seen c opening closing k;
+}
 
 size_at : (lines : List DeviceLine) (devices : List (Sized DeviceNoted DeviceAnswer)) (i : ℕ) (d : Sized DeviceNoted DeviceAnswer) (line : DeviceLine)
     → map (λ (d : Sized DeviceNoted DeviceAnswer). d.capacity) devices ≡ map size_of lines → slice_get devices i ≡ Some d → slice_get lines i ≡ Some line → d.capacity ≡ size_of line
@@ -192,19 +192,19 @@ device_logs c opening closing k i s e =
 
 pub cache_logs : (c : Closing) (opening closing : Store) → IsClosing c → AreCacheLogs (run_of c opening closing)
 cache_logs c opening closing k = record {
-    grown = λ host s e. let at = get_map cache_seen c.objects.caches host s e in
+  grown = λ host s e. let at = get_map cache_seen c.objects.caches host s e in
       subst (λ (x : CacheSeen). IsCacheLog x.capacity x.log) at.2 (k.made.caches host at.0 at.1);
-    callers = λ host s e. let at = get_map cache_seen c.objects.caches host s e in
+  callers = λ host s e. let at = get_map cache_seen c.objects.caches host s e in
       subst (λ (x : CacheSeen). AreCallers (map actor_seen c.actors) x.log) at.2 (callers_of c.actors c.objects.caches host at.0 k.caches at.1);
-  }
+}
 
 pub is_whole : Seen → (c : Closing) (opening closing : Store) → IsClosing c → LedTo c.objects.start opening c.objects.depot closing → HasChunks opening → IsWhole c.objects.start c.lines (run_of c opening closing)
 is_whole seen c opening closing k led chunks = record {
-    led = led;
-    chunks = chunks;
-    setup = k.setup;
-    images = refl;
-    devices = lines_seen (devices_of c.lines) c.objects.devices (many c k);
-    logs = device_logs c opening closing k;
-    trails = is_run seen c opening closing k;
-  }
+  led = led;
+  chunks = chunks;
+  setup = k.setup;
+  images = refl;
+  devices = lines_seen (devices_of c.lines) c.objects.devices (many c k);
+  logs = device_logs c opening closing k;
+  trails = is_run seen c opening closing k;
+}

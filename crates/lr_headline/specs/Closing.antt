@@ -88,13 +88,13 @@ devices_seen (line ∷ lines) (d ∷ devices) = record { line = line; log = d.lo
 -- the run over a store that had these objects and has those
 abbrev pub run_of : Closing → Store → Store → Run
 run_of c opening closing = record {
-    opening = opening;
-    closing = closing;
-    images = images_of c.lines;
-    creations = c.creations;
-    devices = devices_seen (devices_of c.lines) c.objects.devices;
-    caches = map cache_seen c.objects.caches;
-    nodes = map node_log c.objects.nodes;
-    depot = c.objects.depot;
-    actors = map actor_seen c.actors;
-  }
+  opening = opening;
+  closing = closing;
+  images = images_of c.lines;
+  creations = c.creations;
+  devices = devices_seen (devices_of c.lines) c.objects.devices;
+  caches = map cache_seen c.objects.caches;
+  nodes = map node_log c.objects.nodes;
+  depot = c.objects.depot;
+  actors = map actor_seen c.actors;
+}

@@ -8,7 +8,8 @@ use std::alloc::Global;
 use std::test::Fail;
 
 /// The setup lines: two hosts, two images, three devices.
-pub const SETUP: &[u8] = b"script 1\nnodes 5 32\nroot 1111111111111111111111111111111111111111111111111111111111111111\nhost h 1\nhost k 2\nimage a aaaaaaaaaaaaaaaaaaaaaaaaaaaaaaaaaaaaaaaaaaaaaaaaaaaaaaaaaaaaaaaa 5000 bytes 700x41 1x42\nimage b bbbbbbbbbbbbbbbbbbbbbbbbbbbbbbbbbbbbbbbbbbbbbbbbbbbbbbbbbbbbbbbb 9000 seed 7\ndevice d h a aaaaaaaaaaaaaaaaaaaaaaaaaaaaaaaaaaaaaaaaaaaaaaaaaaaaaaaaaaaaaaaa\ndevice e k b bbbbbbbbbbbbbbbbbbbbbbbbbbbbbbbbbbbbbbbbbbbbbbbbbbbbbbbbbbbbbbbb\ndevice f k a aaaaaaaaaaaaaaaaaaaaaaaaaaaaaaaaaaaaaaaaaaaaaaaaaaaaaaaaaaaaaaaa\n";
+pub const SETUP: &[u8] =
+    b"script 1\nnodes 5 32\nroot 1111111111111111111111111111111111111111111111111111111111111111\nhost h 1\nhost k 2\nimage a aaaaaaaaaaaaaaaaaaaaaaaaaaaaaaaaaaaaaaaaaaaaaaaaaaaaaaaaaaaaaaaa 5000 bytes 700x41 1x42\nimage b bbbbbbbbbbbbbbbbbbbbbbbbbbbbbbbbbbbbbbbbbbbbbbbbbbbbbbbbbbbbbbbb 9000 seed 7\ndevice d h a aaaaaaaaaaaaaaaaaaaaaaaaaaaaaaaaaaaaaaaaaaaaaaaaaaaaaaaaaaaaaaaa\ndevice e k b bbbbbbbbbbbbbbbbbbbbbbbbbbbbbbbbbbbbbbbbbbbbbbbbbbbbbbbbbbbbbbbb\ndevice f k a aaaaaaaaaaaaaaaaaaaaaaaaaaaaaaaaaaaaaaaaaaaaaaaaaaaaaaaaaaaaaaaa\n";
 
 const DEVICES: [&[u8]; 3] = [b"d", b"e", b"f"];
 
@@ -57,7 +58,8 @@ impl Maker {
     fn put_number(&mut self, number: u32) -> Result<(), Fail> {
         let mut buffer = Buffer::new();
         self.text.extend_from_slice(b" ")?;
-        self.text.extend_from_slice(buffer.format(number).as_bytes())?;
+        self.text
+            .extend_from_slice(buffer.format(number).as_bytes())?;
         Ok(())
     }
 
@@ -81,7 +83,11 @@ impl Maker {
             0 => {
                 self.put_device(b"write ")?;
                 self.put_number(length + 512)?;
-                self.put(if length % 1024 == 0 { b"x5a\n" } else { b"x5b 512x00\n" })
+                self.put(if length % 1024 == 0 {
+                    b"x5a\n"
+                } else {
+                    b"x5b 512x00\n"
+                })
             }
             1 => {
                 self.put_device(b"zero ")?;

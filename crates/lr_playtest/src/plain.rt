@@ -7,7 +7,11 @@ use std::test::Fail;
 // Whether the range of a call is one of whole sectors within so many bytes.
 fn is_within(call: &DeviceCall, size: usize) -> bool {
     let (offset, length) = (call.offset(), call.length());
-    length > 0 && offset % 512 == 0 && length % 512 == 0 && offset <= size as u64 && length <= size as u64 - offset
+    length > 0
+        && offset % 512 == 0
+        && length % 512 == 0
+        && offset <= size as u64
+        && length <= size as u64 - offset
 }
 
 // What the bytes answer to a call, and what it makes of them: whether the reply is that one.

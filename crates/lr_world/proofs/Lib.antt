@@ -1,0 +1,16 @@
+mod Places
+mod Taken
+mod Nearing
+mod Keys
+mod Leases
+mod Gone
+mod Kept
+mod Falls
+mod Begun
+mod Found
+mod Running
+mod Alone
+mod Serial
+mod Rounds
+mod Leaving
+mod Scheduled
