@@ -15,7 +15,7 @@ use Rattle.lr_walk.specs.Jobs.{Context}
 use Rattle.lr_walk.specs.Trails.{Lists, is_same, IsAt, ReadsOne, Reads, is_entry_of, places_in, places, AreCounted}
 use Rattle.lr_actors.specs.declared.running.Running.{Running}
 use Rattle.lr_actors.specs.Asked.{Adds}
-use Rattle.lr_actors.specs.Running.{asked, StandsFor, Went}
+use Rattle.lr_actors.specs.Running.{asked, StandsFor, Knows, Went}
 use Rattle.lr_actors.specs.Jobs.{Job, WalksJob, IsWalk}
 use Rattle.lr_actors.specs.Records.{HasWalk, HasTrail}
 use Rattle.lr_actors.specs.Accounts.{Grows, Account, places_of, did_of, with_step, with_result, Stands, StandsAt, IsEnd}
@@ -189,10 +189,16 @@ at_more context lists after jobs a s old new reply stands g went adds now = (
   reads_more after a.path now.0 (did_of a s) s (reads_extended lists after a.path now.0 (extends_by (is_memory s.reply) lists after s g) now.1)
       (refl, step_at lists after a s (is_memory s.reply) refl g (stands.whole (object_of s.call))),
   went.stands now.0 (s ∷ []) adds now.2,
+  went.knows now.0 (s ∷ []) adds now.3,
 )
 
 pub at_busy : (lists : Lists) (path : List Did) (old new : Running) (reply : Reply) → Went old reply new → Adds (asked old) reply [] → StandsAt lists path old → StandsAt lists path new
-at_busy lists path old new reply went adds now = (now.0, now.1, subst (StandsFor new) (append-nil now.0) (went.stands now.0 [] adds now.2))
+at_busy lists path old new reply went adds now = (
+  now.0,
+  now.1,
+  subst (StandsFor new) (append-nil now.0) (went.stands now.0 [] adds now.2),
+  subst (Knows new) (append-nil now.0) (went.knows now.0 [] adds now.3),
+)
 
 is_walk : (context : Context) (job : Job) (steps : List Step) (answer : Answer) → IsEnd answer → WalksJob context job steps answer → IsWalk context job steps answer
 is_walk context job steps Cut p w = absurd p

@@ -1,11 +1,12 @@
 -- the jobs of the depot come nearer to their ends
 use Rattle.std.proofs.Common.{◌≡◌, inl, inr, ℕ, zero, suc, ◌+◌, ◌-◌, ◌*◌, ◌≤◌, ◌<◌, List, length, refl, sym, subst, arith}
+use Rattle.lr_manifest.specs.Manifest.{ManifestFields, IsManifest}
 use Rattle.lr_walk.specs.Depot.{Reply, moving, copied, kept, moved, memory, began, made}
 use Rattle.lr_migrator.specs.Progress as migrations
 use Rattle.lr_creator.specs.Progress as creations
 use Rattle.lr_creator.specs.Progress.{is_wanting, advanced}
 use Rattle.lr_creator.specs.Seen.{Gave, LeftShort, Finished, FinishedAt}
-use Rattle.lr_actors.specs.Bounds.{moves_left, MovesNear, chunks, puts_left}
+use Rattle.lr_actors.specs.Bounds.{moves_left, moves_ahead, MovesNear, HasFewChunks, chunks, puts_left}
 
 copying_on_left : (session index n : ℕ) → moves_left (migrations.copying_on session index n) ≤ 2 * n + 2
 copying_on_left session index zero = omega arith
@@ -29,6 +30,36 @@ moves_near image (migrations.ended end) reply a = absurd a
 
 pub migrations_near : (p : migrations.Progress) (reply : Reply) → migrations.Admits p reply → MovesNear p.need reply
 migrations_near p reply a = moves_near p.image p.need reply a
+
+-- ---- migrations, of at most 20,480 chunks
+
+pub few_chunks : (m : ManifestFields) → IsManifest m → length m.names ≤ 20480
+few_chunks m is = omega (arith, is.count, is.raw_len)
+
+copying_on_ahead : (session index n : ℕ) → moves_ahead (migrations.copying_on session index n) ≤ 2 * n + 2
+copying_on_ahead session index zero = omega arith
+copying_on_ahead session index (suc left) = omega arith
+
+ahead_near : (image : List ℕ) (need : migrations.Need) (reply : Reply) → migrations.AnswersAsked (migrations.asked image need) reply → HasFewChunks reply
+    → moves_ahead (migrations.advanced need reply) + 1 ≤ moves_ahead need
+ahead_near image migrations.beginning (moving session from to fields) a few = let h = copying_on_ahead session 0 (length fields.names) in omega arith
+ahead_near image migrations.beginning memory a few = omega arith
+ahead_near image migrations.beginning reply a few = omega arith
+ahead_near image (migrations.copying session index left) (copied name) a few = omega arith
+ahead_near image (migrations.copying session index left) memory a few = omega arith
+ahead_near image (migrations.copying session index left) reply a few = omega arith
+ahead_near image (migrations.putting session index left name) kept a few = let h = copying_on_ahead session (suc index) left in omega arith
+ahead_near image (migrations.putting session index left name) memory a few = omega arith
+ahead_near image (migrations.putting session index left name) reply a few = omega arith
+ahead_near image (migrations.finishing session) (moved from to) a few = omega arith
+ahead_near image (migrations.finishing session) memory a few = omega arith
+ahead_near image (migrations.finishing session) reply a few = omega arith
+ahead_near image (migrations.leaving session end) reply a few = omega arith
+ahead_near image (migrations.ended end) reply a few = absurd a
+
+pub migration_nears : (p : migrations.Progress) (new : migrations.Need) (reply : Reply) → migrations.Admits p reply → HasFewChunks reply → new ≡ migrations.advanced p.need reply
+    → moves_ahead new + 1 ≤ moves_ahead p.need
+migration_nears p new reply a few e = subst (λ (q : migrations.Need). moves_ahead q + 1 ≤ moves_ahead p.need) (sym e) (ahead_near p.image p.need reply a few)
 
 -- ---- creations
 

@@ -1,5 +1,5 @@
 -- a collection as a job: with each step the walk goes on
-use Rattle.std.proofs.Common.{◌≡◌, List, ◌++◌, refl}
+use Rattle.std.proofs.Common.{◌≡◌, inl, List, ◌++◌, refl}
 use Rattle.lr_walk.specs.declared.trail.Answer.{Answer}
 use Rattle.lr_walk.specs.Steps.{Reply, by_depot, Step}
 use Rattle.lr_walk.specs.Stands as stands
@@ -19,7 +19,7 @@ walk_at : (p : Progress) → Ends p → (a : Asked) → collections.asked p.job 
     → Collecting p.job steps answer
 walk_at p ends (a_call call) e steps answer f l = absurd (cc)
 walk_at p ends (an_end end) e steps answer f l =
-    lifted_walk collected (Collects p.job) (Stands p) end (λ own. ends own end e) steps answer (cc) l
+    inl (lifted_walk collected (Collects p.job) (Stands p) end (λ own. ends own end e) steps answer (cc) l)
 
 pub is_walk : (p : Progress) → Ends p → (steps : List Step) (answer : Answer) → asked p ≡ job.an_end answer → StandsFor p steps → Collecting p.job steps answer
 is_walk p ends steps answer e l = walk_at p ends (collections.asked p.job p.need) refl steps answer e l
@@ -33,7 +33,8 @@ front_at : (p : Progress) (a : Asked) (reply : depots.Reply) → collections.Ans
     → (steps more : List Step) → job.Adds (asked_by a) (by_depot reply) more → StandsFor p steps → IsFront p.job (steps ++ more)
 front_at p (a_call call) reply admitted fronts steps more adds l =
     let lifted = lifted_more (Stands p) (stands.IsFront (Collects p.job)) (depots.step call reply) fronts steps more adds l in
-    lifted_front collected (Collects p.job) lifted.0 lifted.2 (steps ++ more) lifted.1
+    let f = lifted_front collected (Collects p.job) lifted.0 lifted.2 (steps ++ more) lifted.1 in
+    (f.0, f.1, inl f.2)
 front_at p (an_end end) reply admitted fronts steps more adds l = absurd adds
 
 pub is_front : (p : Progress) → Fronts p → (steps more : List Step) (reply : Reply) → Admits p reply → job.Adds (asked p) reply more → StandsFor p steps → IsFront p.job (steps ++ more)

@@ -18,14 +18,16 @@ use Rattle.lr_walk.specs.Depot as depots
 use Rattle.lr_walk.specs.Cache as caches
 use Rattle.lr_walk.specs.Node as nodes
 use Rattle.lr_walk.specs.Device as devices
+use Rattle.lr_collector.specs.declared.collect.CollectJob.{CollectJob}
+use Rattle.lr_collector.specs.declared.collect.CollectJob.TheVariants as collect
 use Rattle.lr_collector.specs.Collection as collections
 use Rattle.lr_migrator.specs.Migration as migrations
 use Rattle.lr_creator.specs.Creation as creations
 use Rattle.lr_actors.specs.Lifted.{answer_to}
-use Rattle.lr_actors.specs.Collecting.{collected}
+use Rattle.lr_actors.specs.Collecting.{collected, Stops}
 use Rattle.lr_actors.specs.Migrating.{migrated}
 use Rattle.lr_actors.specs.Creating.{created}
-use Rattle.lr_actors.specs.Jobs.{Job, calls, creates, migrates, collects, closes, evicts, drops_stripe, flips_stripe, forges, loses, WalksJob}
+use Rattle.lr_actors.specs.Jobs.{Job, calls, creates, migrates, collects, closes, evicts, drops_stripe, flips_stripe, forges, loses, MakesJob, WalksJob}
 use Rattle.lr_actors.specs.Accounts.{IsEnd}
 
 is_end : (answer last : Answer) → IsEnd last → answer ≡ last → IsEnd answer
@@ -157,15 +159,24 @@ forge_end : (n : ℕ) (name : Name) (steps : List Step) (answer : Answer) → Fo
 forge_end n name steps answer (inl w) = puts_end n name w.0 Forged steps answer tt w.2
 forge_end n name steps answer (inr w) = is_end answer Memory tt w.1
 
+-- a sweep that stopped
+stop_end : (job : CollectJob) (steps : List Step) (answer : Answer) → Stops job steps answer → IsEnd answer
+stop_end (collect.Sweep root) steps answer w = is_end answer Memory tt w.1
+stop_end job steps answer w = absurd w
+
+made_end : (context : Context) (job : Job) (steps : List Step) (answer : Answer) → MakesJob context job steps answer → IsEnd answer
+made_end context (calls device call) steps answer w = call_end context.nodes device w.0 call steps answer w.2
+made_end context (creates image tenant raw) steps answer w = is_end answer (created w.0) (created_end w.0) w.2
+made_end context (migrates image) steps answer w = is_end answer (migrated w.0) (migrated_end w.0) w.2
+made_end context (collects job) steps answer (inl w) = is_end answer (collected w.0) (collected_end w.0) w.2
+made_end context (collects job) steps answer (inr w) = stop_end job steps answer w
+made_end context (closes device) steps answer w = depot_end w.2.0 w.2.2 answer w.2.5
+made_end context (evicts host) steps answer w = evict_end w.0 w.2 answer w.5
+made_end context (drops_stripe index device chunk) steps answer w = damages_end w.0 chunk (DropsStripe context.nodes index) steps answer (λ name v. damage_end Dropped tt v.0 v.2 answer v.5) w.2
+made_end context (flips_stripe index device chunk at) steps answer w = damages_end w.0 chunk (FlipsStripe context.nodes index at) steps answer (λ name v. damage_end Flipped tt v.0 v.2 answer v.5) w.2
+made_end context (forges device chunk) steps answer w = damages_end w.0 chunk (Forges context.nodes) steps answer (λ name v. forge_end context.nodes name steps answer v) w.2
+made_end context (loses node) steps answer w = loss_end w.0 w.2 answer w.5
+
 pub job_ends : (context : Context) (job : Job) (steps : List Step) (answer : Answer) → WalksJob context job steps answer → IsEnd answer
-job_ends context (calls device call) steps answer w = call_end context.nodes device w.0 call steps answer w.2
-job_ends context (creates image tenant raw) steps answer (inl w) = is_end answer (created w.0) (created_end w.0) w.2
-job_ends context (creates image tenant raw) steps answer (inr w) = is_end answer Memory tt w.1
-job_ends context (migrates image) steps answer w = is_end answer (migrated w.0) (migrated_end w.0) w.2
-job_ends context (collects job) steps answer w = is_end answer (collected w.0) (collected_end w.0) w.2
-job_ends context (closes device) steps answer w = depot_end w.2.0 w.2.2 answer w.2.5
-job_ends context (evicts host) steps answer w = evict_end w.0 w.2 answer w.5
-job_ends context (drops_stripe index device chunk) steps answer w = damages_end w.0 chunk (DropsStripe context.nodes index) steps answer (λ name v. damage_end Dropped tt v.0 v.2 answer v.5) w.2
-job_ends context (flips_stripe index device chunk at) steps answer w = damages_end w.0 chunk (FlipsStripe context.nodes index at) steps answer (λ name v. damage_end Flipped tt v.0 v.2 answer v.5) w.2
-job_ends context (forges device chunk) steps answer w = damages_end w.0 chunk (Forges context.nodes) steps answer (λ name v. forge_end context.nodes name steps answer v) w.2
-job_ends context (loses node) steps answer w = loss_end w.0 w.2 answer w.5
+job_ends context job steps answer (inl w) = made_end context job steps answer w
+job_ends context job steps answer (inr w) = is_end answer Memory tt w.1

@@ -1,9 +1,11 @@
 pub mod Loads
 pub mod Served
+pub mod Knowing
 pub mod OneCall
 pub mod Forgings
 pub mod Lifting
 pub mod Collected
+pub mod Stopped
 pub mod Migrated
 pub mod Created
 pub mod Needs

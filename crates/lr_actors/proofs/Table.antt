@@ -1,5 +1,5 @@
 -- machines and the table of jobs
-use Rattle.std.proofs.Common.{◌≡◌, ℕ, List, [], Some, None, refl, sym, subst, ◌∙◌}
+use Rattle.std.proofs.Common.{◌≡◌, inl, ℕ, List, [], Some, None, refl, sym, subst, ◌∙◌}
 use Rattle.std.specs.Prelude.{slice_get}
 use Rattle.std.proofs.lemmas.Option.{none-some}
 use Rattle.lr_manifest.specs.declared.name.Name.{Name}
@@ -26,9 +26,9 @@ damages_none place chunk more e = ((λ name f. absurd (none-some name (sym e ∙
 
 pub past : (context : Context) (device chunk : ℕ) (place : DevicePlace) (job : Job) → IsAt context device place → slice_get place.names chunk ≡ None → IsDamage device chunk job → WalksJob context job [] NoChunk
 past context device chunk place (drops_stripe index d c) at e is =
-    subst (λ (q : ℕ × ℕ). WalksJob context (drops_stripe index q.0 q.1) [] NoChunk) (λ i. (sym is.0 i, sym is.1 i)) (place, at, damages_none place chunk (DropsStripe context.nodes index) e)
+    subst (λ (q : ℕ × ℕ). WalksJob context (drops_stripe index q.0 q.1) [] NoChunk) (λ i. (sym is.0 i, sym is.1 i)) (inl (place, at, damages_none place chunk (DropsStripe context.nodes index) e))
 past context device chunk place (flips_stripe index d c a) at e is =
-    subst (λ (q : ℕ × ℕ). WalksJob context (flips_stripe index q.0 q.1 a) [] NoChunk) (λ i. (sym is.0 i, sym is.1 i)) (place, at, damages_none place chunk (FlipsStripe context.nodes index a) e)
+    subst (λ (q : ℕ × ℕ). WalksJob context (flips_stripe index q.0 q.1 a) [] NoChunk) (λ i. (sym is.0 i, sym is.1 i)) (inl (place, at, damages_none place chunk (FlipsStripe context.nodes index a) e))
 past context device chunk place (forges d c) at e is =
-    subst (λ (q : ℕ × ℕ). WalksJob context (forges q.0 q.1) [] NoChunk) (λ i. (sym is.0 i, sym is.1 i)) (place, at, damages_none place chunk (Forges context.nodes) e)
+    subst (λ (q : ℕ × ℕ). WalksJob context (forges q.0 q.1) [] NoChunk) (λ i. (sym is.0 i, sym is.1 i)) (inl (place, at, damages_none place chunk (Forges context.nodes) e))
 past context device chunk place job at e is = absurd is

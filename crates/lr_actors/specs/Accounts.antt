@@ -9,7 +9,7 @@ use Rattle.lr_walk.specs.Steps.{Step, object_of, is_memory}
 use Rattle.lr_walk.specs.Jobs.{Context}
 use Rattle.lr_walk.specs.Trails.{Lists, is_same, Reads, places_in, places, AreCounted}
 use Rattle.lr_actors.specs.declared.running.Running.{Running}
-use Rattle.lr_actors.specs.Running.{StandsFor}
+use Rattle.lr_actors.specs.Running.{StandsFor, Knows}
 use Rattle.lr_actors.specs.Jobs.{Job}
 use Rattle.lr_actors.specs.Records.{HasWalk}
 
@@ -45,7 +45,7 @@ pub record Stands (context : Context) (lists : Lists) (jobs : List Job) (a : Acc
 
 -- the job under way stands for the steps that its path names
 abbrev pub StandsAt : Lists → List Did → Running → Type 0
-StandsAt lists path r = (steps : List Step) × Reads lists path steps × StandsFor r steps
+StandsAt lists path r = (steps : List Step) × Reads lists path steps × StandsFor r steps × Knows r steps
 
 -- an answer of a job that ended
 abbrev pub IsEnd : Answer → Type 0

@@ -1,8 +1,9 @@
 -- How many steps the jobs of the depot may still make.
-use Rattle.std.specs.Prelude.{◌≡◌, ◌≤◌, ◌+◌, ◌-◌, ◌*◌, ◌/◌, ℕ, length}
+use Rattle.std.specs.Prelude.{◌≡◌, ◌≤◌, ◌+◌, ◌-◌, ◌*◌, ◌/◌, ℕ, length, ⊤}
 use Rattle.lr_walk.specs.Depot.{Reply, moving}
 use Rattle.lr_migrator.specs.Progress as migrations
 use Rattle.lr_creator.specs.Progress as creations
+use Rattle.lr_collector.specs.Progress as collections
 use Rattle.lr_actors.specs.Creating.{Progress}
 
 -- of a migration that has begun
@@ -12,6 +13,21 @@ moves_left (migrations.putting session index left name) = 2 * left + 3
 moves_left (migrations.finishing session) = 2
 moves_left (migrations.leaving session end) = 1
 moves_left need = 0
+
+-- of a migration, of at most 20,480 chunks
+abbrev pub moves_ahead : migrations.Need → ℕ
+moves_ahead migrations.beginning = 2 * 20480 + 3
+moves_ahead need = moves_left need
+
+-- a manifest in the reply has at most so many chunks
+abbrev pub HasFewChunks : Reply → Type 0
+HasFewChunks (moving session from to fields) = length fields.names ≤ 20480
+HasFewChunks reply = ⊤
+
+-- of a collection, the removals of a sweep not counted
+abbrev pub collects_left : collections.Need → ℕ
+collects_left (collections.asking count) = 1
+collects_left (collections.ended end) = 0
 
 -- Its beginning tells how many chunks there are: two steps for each, and two more. Each later step brings it nearer to its end.
 abbrev pub MovesNear : migrations.Need → Reply → Type 0

@@ -1,5 +1,5 @@
 -- The jobs of a script, and the walk of each.
-use Rattle.std.specs.Prelude.{◌≡◌, ℕ, List, [], ◌∷◌, ◌++◌, map}
+use Rattle.std.specs.Prelude.{◌≡◌, ◌+◌, ◌*◌, ℕ, List, [], ◌∷◌, ◌++◌, length, map}
 use Rattle.lr_text.specs.Bytes.{bytes_of_runs}
 use Rattle.lr_device.specs.declared.call.DeviceCall.{DeviceCall}
 use Rattle.lr_device.specs.declared.call.DeviceCall.TheVariants as device_call
@@ -20,6 +20,7 @@ use Rattle.lr_actors.specs.Places.{seen_place}
 use Rattle.lr_actors.specs.Collecting.{Collecting}
 use Rattle.lr_actors.specs.Migrating.{Migrating}
 use Rattle.lr_actors.specs.Creating.{raw_of, Creating}
+use Rattle.lr_actors.specs.Bounds.{chunks}
 
 -- what all actors share
 abbrev pub seen_context : Kept → Context
@@ -58,18 +59,30 @@ job_of (script.Forge device chunk) = forges device chunk
 job_of (script.Lose node) = loses node
 job_of (script.Close device) = closes device
 
--- A finished job. Where the actor finds no memory to begin a creation, it makes no step.
+-- a job that was begun
+abbrev pub MakesJob : Context → Job → Walks Step Answer
+MakesJob context (calls device call) = OnDevice context device (λ place. CallsDevice context.nodes device place call)
+MakesJob context (creates image tenant raw) = Creating image tenant raw
+MakesJob context (migrates image) = Migrating image
+MakesJob context (collects job) = Collecting job
+MakesJob context (closes device) = OnDevice context device (λ place. AsksDepot (depots.closes place.lease))
+MakesJob context (evicts host) = Evicts host
+MakesJob context (drops_stripe index device chunk) = OnDevice context device (λ place. Damages place chunk (DropsStripe context.nodes index))
+MakesJob context (flips_stripe index device chunk at) = OnDevice context device (λ place. Damages place chunk (FlipsStripe context.nodes index at))
+MakesJob context (forges device chunk) = OnDevice context device (λ place. Damages place chunk (Forges context.nodes))
+MakesJob context (loses node) = Loses node
+
+-- A finished job. Where the actor finds no memory to begin it, it makes no step.
 abbrev pub WalksJob : Context → Job → Walks Step Answer
-WalksJob context (calls device call) = OnDevice context device (λ place. CallsDevice context.nodes device place call)
-WalksJob context (creates image tenant raw) = Or (Creating image tenant raw) (Ends Memory)
-WalksJob context (migrates image) = Migrating image
-WalksJob context (collects job) = Collecting job
-WalksJob context (closes device) = OnDevice context device (λ place. AsksDepot (depots.closes place.lease))
-WalksJob context (evicts host) = Evicts host
-WalksJob context (drops_stripe index device chunk) = OnDevice context device (λ place. Damages place chunk (DropsStripe context.nodes index))
-WalksJob context (flips_stripe index device chunk at) = OnDevice context device (λ place. Damages place chunk (FlipsStripe context.nodes index at))
-WalksJob context (forges device chunk) = OnDevice context device (λ place. Damages place chunk (Forges context.nodes))
-WalksJob context (loses node) = Loses node
+WalksJob context job = Or (MakesJob context job) (Ends Memory)
+
+-- the most steps that a job makes, Busy and the removals of a sweep not counted
+abbrev pub bound_of : Job → ℕ
+bound_of (calls device call) = 44
+bound_of (creates image tenant raw) = chunks (length raw) + 3
+bound_of (migrates image) = 2 * 20480 + 3
+bound_of (forges device chunk) = 5
+bound_of job = 1
 
 -- A job, finished, cut or not begun. A cut one made a proper part of a walk, and not nothing.
 abbrev pub IsWalk : Context → Job → Walks Step Answer

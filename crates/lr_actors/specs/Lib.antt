@@ -16,3 +16,5 @@ pub mod Records
 pub mod Accounts
 pub mod Damaged
 pub mod Bounds
+pub mod Actor
+pub mod Trailed

@@ -1,10 +1,12 @@
 -- A job under way, of any kind, as contracts see it.
-use Rattle.std.specs.Prelude.{◌≡◌, ℕ, List, ◌++◌, Bool, true, false, Some, slice_get, ⊤}
+use Rattle.std.specs.Prelude.{◌≡◌, ◌≤◌, ◌+◌, ℕ, List, ◌++◌, Bool, true, false, Some, slice_get, ⊤}
 use Rattle.lr_collector.specs.declared.collect.CollectJob.{CollectJob}
 use Rattle.lr_walk.specs.declared.trail.Answer.{Answer}
 use Rattle.lr_walk.specs.Walk.{Walks}
 use Rattle.lr_walk.specs.Stands.{IsFront}
-use Rattle.lr_walk.specs.Steps.{Reply, Step}
+use Rattle.lr_walk.specs.Steps.{Reply, by_cache, by_depot, Step}
+use Rattle.lr_walk.specs.Cache as caches
+use Rattle.lr_walk.specs.Depot as depots
 use Rattle.lr_walk.specs.Jobs.{Context}
 use Rattle.lr_actors.specs.declared.single.Single.{Single}
 use Rattle.lr_actors.specs.declared.running.Running.{Running}
@@ -18,6 +20,8 @@ use Rattle.lr_actors.specs.Forging as forging
 use Rattle.lr_actors.specs.Collecting as collecting
 use Rattle.lr_actors.specs.Migrating as migrating
 use Rattle.lr_actors.specs.Creating as creating
+use Rattle.lr_actors.specs.Bounds.{moves_ahead, collects_left}
+use Rattle.lr_actors.specs.Bounds.{steps_left as puts_ahead}
 
 -- what a job under way is of
 pub data Task : Type 0 where
@@ -80,10 +84,30 @@ StandsFor (running.Collects p) steps = collecting.StandsFor p steps
 StandsFor (running.Migrates p) steps = migrating.StandsFor p steps
 StandsFor (running.Creates p) steps = creating.StandsFor p steps
 
--- a device call is on the device of its number
+-- a device call is on the device of its number, and loads its chunks
 abbrev pub IsAtHome : Context → Running → Type 0
-IsAtHome context (running.Serves device p) = slice_get context.devices device ≡ Some p.work.place
+IsAtHome context (running.Serves device p) = (slice_get context.devices device ≡ Some p.work.place) × serving.IsAtPlace p.work p.need
 IsAtHome context job = ⊤
+
+-- what is known of the steps that it stands for
+abbrev pub Knows : Running → List Step → Type 0
+Knows (running.Serves device p) steps = serving.Knows p.work p.need steps
+Knows job steps = ⊤
+
+-- how many steps it may still make, Busy and the removals of a sweep not counted
+abbrev pub steps_left : Running → ℕ
+steps_left (running.Serves device p) = serving.steps_left p.need
+steps_left (running.Makes p) = singles.steps_left p.need
+steps_left (running.Forges p) = forging.steps_left p.need
+steps_left (running.Collects p) = collects_left p.need
+steps_left (running.Migrates p) = moves_ahead p.need
+steps_left (running.Creates p) = puts_ahead p
+
+-- Each reply brings it nearer to its end, but Busy and a removal.
+abbrev pub Nears : Reply → Running → Running → Type 0
+Nears (by_cache (caches.busy holder)) old new = steps_left new ≤ steps_left old
+Nears (by_depot (depots.removed key)) old new = steps_left new ≤ steps_left old
+Nears reply old new = steps_left new + 1 ≤ steps_left old
 
 -- A job took a reply.
 pub record Went (old : Running) (reply : Reply) (new : Running) : Type 0 where
@@ -91,6 +115,8 @@ pub record Went (old : Running) (reply : Reply) (new : Running) : Type 0 where
   pub home : (context : Context) → IsAtHome context old → IsAtHome context new
   pub ready : is_ready new ≡ true
   pub stands : (steps more : List Step) → Adds (asked old) reply more → StandsFor old steps → StandsFor new (steps ++ more)
+  pub knows : (steps more : List Step) → Adds (asked old) reply more → Knows old steps → Knows new (steps ++ more)
+  pub nears : Nears reply old new
 
 -- The same job, whose call was handed out. With that call and any reply to it, what it stands for is a walk or the front of one.
 pub record IsOut (old new : Running) : Type 0 where
@@ -99,6 +125,8 @@ pub record IsOut (old new : Running) : Type 0 where
   pub call : asked new ≡ asked old
   pub out : is_ready new ≡ false
   pub stands : (steps : List Step) → StandsFor old steps → StandsFor new steps
+  pub knows : (steps : List Step) → Knows old steps → Knows new steps
+  pub left : steps_left new ≡ steps_left old
   pub front : (steps more : List Step) (reply : Reply) → Admits old reply → Adds (asked old) reply more → StandsFor old steps → IsFront (Walk (task_of old)) (steps ++ more)
 
 -- A job hands out its call, or it has ended with a walk.

@@ -1,5 +1,5 @@
 -- A device call under way, as contracts see it.
-use Rattle.std.specs.Prelude.{◌≡◌, ◌⊎◌, ◌≤◌, ◌<◌, ◌+◌, ◌*◌, ℕ, List, [], ◌∷◌, ◌++◌, length, Bool, Some, slice_get, ⊤}
+use Rattle.std.specs.Prelude.{◌≡◌, ◌⊎◌, ◌≤◌, ◌<◌, ◌+◌, ◌*◌, ℕ, List, [], ◌∷◌, ◌++◌, length, map, Bool, false, Some, slice_get, ⊤}
 use Rattle.std.specs.List.{AllByRecursion}
 use Rattle.lr_manifest.specs.declared.name.Name.{Name}
 use Rattle.lr_device.specs.declared.call.DeviceCall.{DeviceCall}
@@ -9,7 +9,9 @@ use Rattle.lr_walk.specs.declared.trail.Answer.TheVariants.{Fault, Spoiled, Memo
 use Rattle.lr_walk.specs.Walk.{Walks, Ends, Then}
 use Rattle.lr_walk.specs.Stands.{Stands}
 use Rattle.lr_walk.specs.Stands as stands
-use Rattle.lr_walk.specs.Steps.{on_device, Reply, by_device, by_cache, by_depot, Step}
+use Rattle.lr_object.specs.declared.id.ObjectId.TheVariants.{Device}
+use Rattle.lr_walk.specs.Trails.{is_same}
+use Rattle.lr_walk.specs.Steps.{on_device, Reply, by_device, by_cache, by_depot, Step, step, object_of}
 use Rattle.lr_walk.specs.Load.{Ending, with_chunk, with_reply, with_memory}
 use Rattle.lr_walk.specs.Calls.{DevicePlace, answer_of, Drops, Commits, load_place, after_load, LoadsAll, CallsDevice}
 use Rattle.lr_walk.specs.Depot as depots
@@ -175,3 +177,36 @@ steps_left (ended answer) = 0
 abbrev pub Nears : Reply → Need → Need → Type 0
 Nears (by_cache (caches.busy holder)) old new = steps_left new ≤ steps_left old
 Nears reply old new = steps_left new + 1 ≤ steps_left old
+
+-- ---- what a call's steps tell
+
+-- the step is on another object than the device
+abbrev pub IsElsewhere : ℕ → Step → Type 0
+IsElsewhere device s = is_same (object_of s.call) (Device device) ≡ false
+
+-- The first step planned the call, with these needs and pages. The later ones are on other objects.
+pub record IsPlanned (w : Work) (needs : List ℕ) (pages : ℕ) (steps : List Step) : Type 0 where
+  pub later : List Step
+  pub first : steps ≡ step (on_device w.device (devices.plans w.call)) (by_device (devices.planned needs pages)) ∷ later
+  pub elsewhere : AllByRecursion (IsElsewhere w.device) later
+
+-- a load of the device's chunk
+pub record IsLoadAt (w : Work) (place : LoadPlace) : Type 0 where
+  pub name : Name
+  pub named : slice_get w.place.names place.index ≡ Some name
+  pub is : place ≡ load_place w.nodes w.place place.index name
+
+-- what is loaded now is a chunk of the device
+abbrev pub IsAtPlace : Work → Need → Type 0
+IsAtPlace w (loading chunk need left) = IsLoadAt w chunk.place
+IsAtPlace w need = ⊤
+
+abbrev pub indices : List devices.Piece → List ℕ
+indices pieces = map (λ (p : devices.Piece). p.index) pieces
+
+-- Before its plan the call made no step. After it, the pieces that it has and the chunks that it still loads are just what the plan needs.
+abbrev pub Knows : Work → Need → List Step → Type 0
+Knows w planning steps = steps ≡ []
+Knows w (loading chunk need left) steps = IsPlanned w (indices left.pieces ++ chunk.place.index ∷ left.needs) left.pages steps
+Knows w (committing pages pieces) steps = IsPlanned w (indices pieces) pages steps
+Knows w need steps = ⊤

@@ -66,8 +66,8 @@ fn seed_bytes(alloc: Global, number: u32, count: usize) -> Result<Vec<u8>, OutOf
     Ok(bytes)
 }
 
-/// The bytes of a body, of this length.
-pub(crate) fn raw_bytes(alloc: Global, body: &Body, whole: u64) -> Result<Vec<u8>, OutOfMemory>
+/// The raw bytes that a body says, of this length: its runs and then zeros, or the bytes of its number.
+pub fn raw_bytes(alloc: Global, body: &Body, whole: u64) -> Result<Vec<u8>, OutOfMemory>
     ensures { IfOk result (λ v. v.items ≡ raw_of whole (body_seen body.now)) }
 {
     match body {

@@ -13,6 +13,7 @@
 
 mod accounts;
 mod action;
+mod actor;
 mod begin;
 mod bytes;
 mod collecting;
@@ -31,12 +32,14 @@ mod turns;
 
 pub use accounts::{accounts_end_as_trails, accounts_grow};
 pub use action::{ActorCall, ActorReply, JobAction};
+pub use actor::{Actor, ActorAction};
 pub use begin::Begun;
+pub use bytes::raw_bytes;
 pub use collecting::CollectingJob;
 pub use creating::CreatingJob;
 pub use forge::ForgeJob;
 pub use joined::JoinedOf;
-pub use laws::{calls_are_jobs, damages_are_jobs, migrations_near_their_end};
+pub use laws::{calls_are_jobs, damages_are_jobs, migrations_near_their_end, sweeps_may_stop};
 pub use migrating::MigratingJob;
 pub use place::{Context, DevicePlace, Parts};
 pub use running::{JobTurn, Running};

@@ -1,5 +1,5 @@
 //! A migration as a job.
-ghost use Rattle.std.specs.Prelude.{◌≡◌, ◌++◌, List, [], true, false};
+ghost use Rattle.std.specs.Prelude.{◌≡◌, ◌≤◌, ◌+◌, ◌++◌, List, [], length, true, false};
 ghost use Rattle.lr_walk.specs.declared.trail.Answer.{Answer as Ending};
 ghost use Rattle.lr_walk.specs.Steps.{Step, Reply};
 ghost use Rattle.lr_walk.specs.Depot.{seen_reply as depot_reply};
@@ -8,9 +8,12 @@ ghost use Rattle.lr_migrator.specs.Seen.{seen_end, seen_action};
 ghost use Rattle.lr_actors.specs.Asked.{Hands, MayBeMade, seen_reply, an_end, Adds};
 ghost use Rattle.lr_actors.specs.Migrating.{migrated, Migrating, StandsFor, IsFront, asked_by, asked, Admits};
 ghost use Rattle.lr_actors.specs.Lifted.{Replies};
+ghost use Rattle.lr_actors.specs.Bounds.{HasFewChunks, moves_ahead};
 
 use crate::action::{ActorCall, ActorReply, JobAction};
 use crate::depot_answer::{answer_of_depot, of_depot};
+use lr_depot::DepotReply;
+use lr_manifest::Manifest;
 use lr_migrator::{Migrate, MigrateAction, MigrateEnd};
 use lr_origin::ImageName;
 use lr_walk::Answer;
@@ -54,6 +57,23 @@ fn job_action(action: MigrateAction) -> JobAction
     }
 }
 
+// A manifest has at most 20,480 chunks.
+fn is_whole(manifest: &Manifest)
+    ensures { length manifest.now.names ≤ 20480 }
+{
+    let _ = manifest.names();
+}
+
+// .. and so has the one in a reply.
+fn few_chunks(reply: &DepotReply)
+    ensures { HasFewChunks (depot_reply reply.now) }
+{
+    match reply {
+        DepotReply::Moving { manifest, .. } => is_whole(manifest),
+        _ => (),
+    }
+}
+
 impl MigratingJob {
     /// The migration of an image.
     pub fn new(alloc: Global, image: ImageName) -> MigratingJob
@@ -89,7 +109,10 @@ impl MigratingJob {
         ensures ready { self.new.ready ≡ true }
         ensures next { Replies (seen_reply reply) (λ told. self.new.need ≡ advanced self.old.need told) }
         ensures stands { (steps more : List Step) → Adds (asked self.old) (seen_reply reply) more → StandsFor self.old steps → StandsFor self.new (steps ++ more) }
+        ensures nears { moves_ahead self.new.need + 1 ≤ moves_ahead self.old.need }
     {
-        self.migrate.take(self.alloc, of_depot(reply));
+        let reply = of_depot(reply);
+        few_chunks(&reply);
+        self.migrate.take(self.alloc, reply);
     }
 }

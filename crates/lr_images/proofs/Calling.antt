@@ -1,5 +1,5 @@
 -- calls on a depot, one after another
-use Rattle.std.proofs.Common.{◌≡◌, inl, inr, ℕ, ◌<◌, ◌≤◌, arith, List, [], ◌∷◌, ◌++◌, map, Bool, true, false, refl, ap, sym, ◌∙◌, append-nil, append_assoc}
+use Rattle.std.proofs.Common.{◌≡◌, inl, inr, ℕ, ◌<◌, ◌≤◌, arith, List, [], ◌∷◌, ◌++◌, map, Bool, true, false, refl, ap, sym, subst, ◌∙◌, append-nil, append_assoc}
 use Rattle.std.specs.Prelude.{MatchBool, ◌⊎◌}
 use Rattle.std.specs.List.{AllByRecursion}
 use Rattle.std.proofs.lemmas.List.{map-append}
@@ -7,8 +7,11 @@ use Rattle.lr_spec.specs.Rose.{Rose, last_count}
 use Rattle.lr_depot.specs.declared.call.DepotCall.{DepotCall}
 use Rattle.lr_depot.specs.declared.call.DepotReply.{DepotReply}
 use Rattle.lr_depot.specs.declared.call.DepotReply.TheVariants.{Nothing, OutOfMemory}
-use Rattle.lr_depot.specs.Machine.{LogEntry, Enters, is_logged, IsShared, IsSharedEntry}
-use Rattle.lr_depot.specs.Depot.{Seen}
+use Rattle.lr_rules.specs.State.{State}
+use Rattle.lr_depot.specs.Machine.{LogEntry, DepotStep, Enters, is_logged, IsShared, IsSharedEntry, after_entry, run}
+use Rattle.lr_depot.specs.Begun.{Start}
+use Rattle.lr_depot.specs.Depot.{Seen, first_state, state}
+use Rattle.lr_depot.specs.Store.{IsRun}
 use Rattle.lr_walk.specs.Depot.{Step, step, step_of, logged, with_logged, Reply, memory, nothing, seen_call, seen_reply}
 use Rattle.lr_walk.proofs.Depot.{entry_step}
 use Rattle.lr_images.specs.Drive.{GoesOn, Calls}
@@ -66,16 +69,31 @@ goes_on a b c s t g h =
       callers = all_append g.own h.own g.callers h.callers;
     }
 
-pub calls_none : {O : Type 0} (faults : O → ℕ) (d : Seen O) → Calls faults d d []
-calls_none faults d = record { start = refl; log = record { own = []; after = sym (append-nil d.log); steps_of = refl; callers = tt }; never_falls = omega arith }
+-- a log of the machine, with an entry more
+run_push : (s : State) (log : List LogEntry) (call : DepotCall) (reply : DepotReply) (e : LogEntry) → DepotStep (run s log) e.caller call reply → Enters call reply e → IsRun s log → IsRun s (log ++ e ∷ [])
+run_push s [] call reply e answers enters is = (call, reply, answers, enters, tt)
+run_push s (x ∷ log) call reply e answers enters is = (is.0, is.1, is.2, is.3, run_push (after_entry s x) log call reply e answers enters is.4)
 
-pub calls_one : {O : Type 0} (faults : O → ℕ) (old new : Seen O) (call : DepotCall) (reply : DepotReply) → new.start ≡ old.start → Logs (is_logged reply) call reply old.log new.log
+runs_one : (b : Bool) (s : State) (call : DepotCall) (reply : DepotReply) (log after : List LogEntry) → DepotStep (run s log) 0 call reply → Logs b call reply log after → IsRun s log → IsRun s after
+runs_one true s call reply log after answers (e, grew, caller, enters, shared) is =
+    subst (IsRun s) (sym grew) (run_push s log call reply e (subst (λ (c : ℕ). DepotStep (run s log) c call reply) (sym caller) answers) enters is)
+runs_one false s call reply log after answers same is = subst (IsRun s) (sym same) is
+
+pub calls_none : {O : Type 0} (faults : O → ℕ) (d : Seen O) → Calls faults d d []
+calls_none faults d = record { start = refl; log = record { own = []; after = sym (append-nil d.log); steps_of = refl; callers = tt }; runs = λ is. is; never_falls = omega arith }
+
+pub calls_one : {O : Type 0} (faults : O → ℕ) (old new : Seen O) (call : DepotCall) (reply : DepotReply) → new.start ≡ old.start → DepotStep (state old.start old.log) 0 call reply → Logs (is_logged reply) call reply old.log new.log
     → faults old.origin ≤ faults new.origin → Calls faults old new (step (seen_call call) (seen_reply reply) ∷ [])
-calls_one faults old new call reply start grew never = record { start = start; log = goes_one (is_logged reply) call reply old.log new.log refl grew; never_falls = never }
+calls_one faults old new call reply start answers grew never = record {
+  start = start;
+  log = goes_one (is_logged reply) call reply old.log new.log refl grew;
+  runs = λ is. subst (λ (s : Start). IsRun (first_state s) new.log) (sym start) (runs_one (is_logged reply) (first_state old.start) call reply old.log new.log answers grew is);
+  never_falls = never;
+}
 
 pub calls_on : {O : Type 0} (faults : O → ℕ) (a b c : Seen O) (s t : List Step) → Calls faults a b s → Calls faults b c t → Calls faults a c (s ++ t)
 calls_on faults a b c s t g h =
-    record { start = h.start ∙ g.start; log = goes_on a.log b.log c.log s t g.log h.log; never_falls = omega (arith, g.never_falls, h.never_falls) }
+    record { start = h.start ∙ g.start; log = goes_on a.log b.log c.log s t g.log h.log; runs = λ is. h.runs (g.runs is); never_falls = omega (arith, g.never_falls, h.never_falls) }
 
 pub rose_later : (a b c : ℕ) → Rose a b → b ≤ c → Rose a c
 rose_later a b c (inl less) le = inl (omega (arith, less, le))

@@ -8,7 +8,7 @@ use Rattle.lr_depot.specs.declared.call.DepotCall.{DepotCall}
 use Rattle.lr_depot.specs.declared.call.DepotReply.{DepotReply}
 use Rattle.lr_depot.specs.declared.call.DepotReply.TheVariants.{Fault}
 use Rattle.lr_depot.specs.Machine.{LogEntry, DepotStep, Enters, is_logged}
-use Rattle.lr_depot.specs.Depot.{Seen}
+use Rattle.lr_depot.specs.Depot.{Seen, state}
 use Rattle.lr_depot.specs.Store.{IsFault}
 use Rattle.lr_walk.specs.Depot.{Step, step, Reply, began, kept, made, memory, seen_call, seen_reply}
 use Rattle.lr_walk.proofs.Depot.{answers_by_table}
@@ -55,16 +55,16 @@ fault_more faults base before after old new reply n first second rose was h = by
 -- ---- one call
 
 pub drives_more : {O : Type 0} (faults : O → ℕ) (base before after : Seen O) (old new : Progress) (given : List Input) (call : DepotCall) (reply : DepotReply)
-    → a_call (seen_call call) ≡ asked old.need → after.start ≡ before.start → Logs (is_logged reply) call reply before.log after.log
+    → a_call (seen_call call) ≡ asked old.need → after.start ≡ before.start → DepotStep (state before.start before.log) 0 call reply → Logs (is_logged reply) call reply before.log after.log
     → faults before.origin ≤ faults after.origin → (IsFault reply → Rose (faults before.origin) (faults after.origin))
     → new.need ≡ advanced old.need (seen_reply reply)
     → ((given : List Input) (steps : List Step) → Stands old given steps → Stands new given (with_step steps (asked old.need) (seen_reply reply)))
     → Drives faults base old given before → Drives faults base new given after
-drives_more faults base before after old new given call reply e start grew never rose n takes d =
+drives_more faults base before after old new given call reply e start answers grew never rose n takes d =
     record {
       steps = d.steps ++ step (seen_call call) (seen_reply reply) ∷ [];
       stands = subst (λ q. Stands new given (with_step d.steps q (seen_reply reply))) (sym e) (takes given d.steps d.stands);
-      calls = calls_on faults base before after d.steps (step (seen_call call) (seen_reply reply) ∷ []) d.calls (calls_one faults before after call reply start grew never);
+      calls = calls_on faults base before after d.steps (step (seen_call call) (seen_reply reply) ∷ []) d.calls (calls_one faults before after call reply start answers grew never);
       cause = fault_more faults base before after old.need new.need reply n d.calls.never_falls never rose d.cause;
     }
 

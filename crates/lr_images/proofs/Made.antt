@@ -56,23 +56,23 @@ use Rattle.lr_images.proofs.Filled.{AreNames, are_kept, filled_padded}
 
 -- ---- entries of a log, by the step that they tell
 
-call_chunk : (q : DepotNoted) (session : ℕ) (bytes : List ℕ) → seen_noted q ≡ puts_chunk session bytes → (name : Name) × (q ≡ noted.PutChunk session name)
+pub call_chunk : (q : DepotNoted) (session : ℕ) (bytes : List ℕ) → seen_noted q ≡ puts_chunk session bytes → (name : Name) × (q ≡ noted.PutChunk session name)
 call_chunk (noted.PutChunk n name) session bytes e = let same : n ≡ session = cc in (name, ap (λ k. noted.PutChunk k name) same)
 call_chunk q session bytes e = absurd (cc)
 
-told_kept : (t : DepotTold) → seen_told t ≡ kept → t ≡ told.Kept
+pub told_kept : (t : DepotTold) → seen_told t ≡ kept → t ≡ told.Kept
 told_kept told.Kept e = refl
 told_kept t e = absurd (cc)
 
-call_manifest : (q : DepotNoted) (session : ℕ) (fields : ManifestFields) → seen_noted q ≡ puts_manifest session fields → (m : Arc ManifestFields Global) × (q ≡ noted.PutManifest session m) × (arc_value m ≡ fields)
+pub call_manifest : (q : DepotNoted) (session : ℕ) (fields : ManifestFields) → seen_noted q ≡ puts_manifest session fields → (m : Arc ManifestFields Global) × (q ≡ noted.PutManifest session m) × (arc_value m ≡ fields)
 call_manifest (noted.PutManifest n m) session fields e = let same : n ≡ session = cc in (m, ap (λ k. noted.PutManifest k m) same, cc)
 call_manifest q session fields e = absurd (cc)
 
-told_made : (t : DepotTold) (root : ℕ) → seen_told t ≡ made root → t ≡ told.Made root
+pub told_made : (t : DepotTold) (root : ℕ) → seen_told t ≡ made root → t ≡ told.Made root
 told_made (told.Made r) root e = let same : r ≡ root = cc in ap (λ k. told.Made k) same
 told_made t root e = absurd (cc)
 
-call_begin : (q : DepotNoted) (image : List ℕ) → seen_noted q ≡ begins image → q ≡ noted.BeginCreate image
+pub call_begin : (q : DepotNoted) (image : List ℕ) → seen_noted q ≡ begins image → q ≡ noted.BeginCreate image
 call_begin (noted.BeginCreate i) image e = let same : begins i ≡ begins image = e in ap image_of same
   where
     image_of : Call → DepotNoted
@@ -80,7 +80,7 @@ call_begin (noted.BeginCreate i) image e = let same : begins i ≡ begins image 
     image_of c = noted.Reap
 call_begin q image e = absurd (cc)
 
-told_began : (t : DepotTold) (session root : ℕ) (salt : List ℕ) (number : ℕ) → seen_told t ≡ began session root salt number → t ≡ told.Began session root salt number
+pub told_began : (t : DepotTold) (session root : ℕ) (salt : List ℕ) (number : ℕ) → seen_told t ≡ began session root salt number → t ≡ told.Began session root salt number
 told_began (told.Began a b x d) session root salt number e = ap told_of e
   where
     told_of : Reply → DepotTold
@@ -137,7 +137,7 @@ chunk_desk s c n name (Some session) e = by (map.get s.known.view (kind.Chunk (t
     by None f = rw e (rw f refl)
     by (Some x) f = rw e (rw f refl)
 
-chunk_holds : (s : State) (e : LogEntry) (session k c : ℕ) (j : Job) (bytes : List ℕ) → step_of e ≡ step (puts_chunk session bytes) kept → Holds s k c j → Holds (after_entry s e) k c j
+pub chunk_holds : (s : State) (e : LogEntry) (session k c : ℕ) (j : Job) (bytes : List ℕ) → step_of e ≡ step (puts_chunk session bytes) kept → Holds s k c j → Holds (after_entry s e) k c j
 chunk_holds s e session k c j bytes is holds =
     let call = call_chunk e.call session bytes (ap (λ (q : Step). q.call) is) in
     let reply : e.reply ≡ told.Kept = told_kept e.reply (ap (λ (q : Step). q.reply) is) in
@@ -175,7 +175,7 @@ last_made s e session root rootb number image fields call reply caller is d ente
 
 -- ---- the first entry
 
-first_began : (s : State) (e : LogEntry) (image : List ℕ) (session root : ℕ) (salt : List ℕ) (number : ℕ) (call : DepotCall) (reply : DepotReply) → e.caller ≡ 0 → step_of e ≡ step (begins image) (began session root salt number)
+pub first_began : (s : State) (e : LogEntry) (image : List ℕ) (session root : ℕ) (salt : List ℕ) (number : ℕ) (call : DepotCall) (reply : DepotReply) → e.caller ≡ 0 → step_of e ≡ step (begins image) (began session root salt number)
     → DepotStep s e.caller call reply → Enters call reply e → Holds (after_entry s e) session 0 (JobCreates image root number)
 first_began s e image session root salt number call reply caller is d enters =
     let one : e.call ≡ noted.BeginCreate image = call_begin e.call image (ap (λ (q : Step). q.call) is) in
@@ -195,11 +195,11 @@ leaves_end session end ending steps (reply, first, tail, e, t, ends) = ends.1
 not_left : (session root : ℕ) (end : Ending) (steps : List Step) → (with_root root ≡ end → ⊥) → Leaves session end steps (with_root root) → ⊥
 not_left session root end steps other l = other (leaves_end session end (with_root root) steps l)
 
-not_early : (session root : ℕ) (steps : List Step) → LeavesEarly session steps (with_root root) → ⊥
+pub not_early : (session root : ℕ) (steps : List Step) → LeavesEarly session steps (with_root root) → ⊥
 not_early session root steps (inl l) = not_left session root with_memory steps (λ e. cc) l
 not_early session root steps (inr l) = not_left session root with_stop steps (λ e. cc) l
 
-root_of : (place : Place) (root : ℕ) (reply : Reply) (tail : List Step) → after_manifest place reply tail (with_root root) → (reply ≡ made root) × (tail ≡ [])
+pub root_of : (place : Place) (root : ℕ) (reply : Reply) (tail : List Step) → after_manifest place reply tail (with_root root) → (reply ≡ made root) × (tail ≡ [])
 root_of place root (made r) tail h = let same : with_root root ≡ with_root r = h.1 in (ap made_of (sym same), h.0)
   where
     made_of : Ending → Reply
@@ -208,19 +208,19 @@ root_of place root (made r) tail h = let same : with_root root ≡ with_root r =
 root_of place root memory tail h = absurd (not_left place.session root with_memory tail (λ e. cc) h)
 root_of place root reply tail h = absurd (not_left place.session root (with_reply reply) tail (λ e. cc) h)
 
-kept_of : (place : Place) (root : ℕ) (more : List Step → Ending → Type 0) (reply : Reply) (tail : List Step) → after_chunk place more reply tail (with_root root) → (reply ≡ kept) × more tail (with_root root)
+pub kept_of : (place : Place) (root : ℕ) (more : List Step → Ending → Type 0) (reply : Reply) (tail : List Step) → after_chunk place more reply tail (with_root root) → (reply ≡ kept) × more tail (with_root root)
 kept_of place root more kept tail h = (refl, h)
 kept_of place root more memory tail h = absurd (not_left place.session root with_memory tail (λ e. cc) h)
 kept_of place root more reply tail h = absurd (not_left place.session root (with_reply reply) tail (λ e. cc) h)
 
-began_of : (tenant : List ℕ) (given : List Input) (root : ℕ) (reply : Reply) (tail : List Step) → after_begin tenant reply given tail (with_root root)
+pub began_of : (tenant : List ℕ) (given : List Input) (root : ℕ) (reply : Reply) (tail : List Step) → after_begin tenant reply given tail (with_root root)
     → (session : ℕ) × (r : ℕ) × (salt : List ℕ) × (number : ℕ) × (reply ≡ began session r salt number) × Puts tenant (place_of session r salt number) no_parts given tail (with_root root)
 began_of tenant given root (began session r salt number) tail h = (session, r, salt, number, refl, h)
 began_of tenant given root memory tail h = absurd (let e : with_root root ≡ with_memory = h.1 in cc)
 began_of tenant given root reply tail h = absurd (let e : with_root root ≡ with_reply reply = h.1 in cc)
 
 -- a first step that is logged is the first entry's
-first_entry : (own : List LogEntry) (s : Step) (tail : List Step) → each step_of own ≡ s ∷ tail → (e : LogEntry) × (rest : List LogEntry) × (own ≡ e ∷ rest) × (step_of e ≡ s) × (each step_of rest ≡ tail)
+pub first_entry : (own : List LogEntry) (s : Step) (tail : List Step) → each step_of own ≡ s ∷ tail → (e : LogEntry) × (rest : List LogEntry) × (own ≡ e ∷ rest) × (step_of e ≡ s) × (each step_of rest ≡ tail)
 first_entry [] s tail h = absurd (cc)
 first_entry (e ∷ rest) s tail h = (e, rest, refl, cc, cc)
 
@@ -309,11 +309,11 @@ module _ (tenant image : List ℕ) (place : Place) (root rootb number : ℕ) whe
 
 -- ---- the store afterwards
 
-run_rest : (s : State) (xs ys : List LogEntry) → IsRun s (xs ++ ys) → IsRun (run s xs) ys
+pub run_rest : (s : State) (xs ys : List LogEntry) → IsRun s (xs ++ ys) → IsRun (run s xs) ys
 run_rest s [] ys is = is
 run_rest s (x ∷ xs) ys is = run_rest (after_entry s x) xs ys is.4
 
-run_front : (s : State) (xs ys : List LogEntry) → IsRun s (xs ++ ys) → IsRun s xs
+pub run_front : (s : State) (xs ys : List LogEntry) → IsRun s (xs ++ ys) → IsRun s xs
 run_front s [] ys is = tt
 run_front s (x ∷ xs) ys is = (is.0, is.1, is.2, is.3, run_front (after_entry s x) xs ys is.4)
 
@@ -394,11 +394,11 @@ cut_padded raw padded_bytes bytes len e l cut =
     let same : padded_bytes ≡ padded raw = some_of padded_bytes (padded raw) e in
     cut ∙ ((λ i. take (l i) (same i)) ∙ take_at raw (replicate (padded_length (length raw) - length raw) 0) (length raw) refl)
 
-fields_names : (tenant : List ℕ) (place : Place) (parts : Parts) → (fields_of tenant place parts).names ≡ parts.names
+pub fields_names : (tenant : List ℕ) (place : Place) (parts : Parts) → (fields_of tenant place parts).names ≡ parts.names
 unfolding manifest_made
 fields_names tenant place parts = refl
 
-fields_raw : (tenant : List ℕ) (place : Place) (parts : Parts) → (fields_of tenant place parts).raw_len ≡ parts.raw_len
+pub fields_raw : (tenant : List ℕ) (place : Place) (parts : Parts) → (fields_of tenant place parts).raw_len ≡ parts.raw_len
 unfolding manifest_made
 fields_raw tenant place parts = refl
 

@@ -481,7 +481,7 @@ module _ {O : Type 0} (objects : O → Option Objects) (faults : O → ℕ) (old
         → (steps : List Step) × Calls faults old new steps × Cats image tenant steps (end_of r) × IfOk r (λ v. IsRead objects old image tenant steps (items v))
     opened_walk items new r (own, calls, walk) read = (
       step (opens image) (opened lease (arc_value manifest)) ∷ own,
-      calls_on faults old mid new (step (opens image) (opened lease (arc_value manifest)) ∷ []) own (calls_one faults old mid (OpenImage image) (Opened lease manifest) start logs never) calls,
+      calls_on faults old mid new (step (opens image) (opened lease (arc_value manifest)) ∷ []) own (calls_one faults old mid (OpenImage image) (Opened lease manifest) start step_is logs never) calls,
       open_goes_on image tenant lease (arc_value manifest) own (end_of r) walk,
       if_ok _ _ r
           (λ v f.

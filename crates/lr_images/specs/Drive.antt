@@ -3,7 +3,8 @@ use Rattle.std.specs.Prelude.{◌≡◌, ◌≤◌, ◌+◌, ◌%◌, ℕ, lengt
 use Rattle.std.specs.List.{AllByRecursion, flat_map}
 use Rattle.lr_spec.specs.Rose.{Rose}
 use Rattle.lr_manifest.specs.Manifest.{itself}
-use Rattle.lr_depot.specs.Depot.{Seen}
+use Rattle.lr_depot.specs.Depot.{Seen, first_state}
+use Rattle.lr_depot.specs.Store.{IsRun}
 use Rattle.lr_depot.specs.Machine.{LogEntry}
 use Rattle.lr_walk.specs.Depot.{Step, step_of, logged, fault}
 use Rattle.lr_creator.specs.Creation.{Ending, with_root, with_reply, with_memory, with_stop, Input, piece, last, Creates}
@@ -16,10 +17,12 @@ pub record GoesOn (base : List LogEntry) (log : List LogEntry) (steps : List Ste
   pub steps_of : map step_of own ≡ logged steps
   pub callers : AllByRecursion (λ e. e.caller ≡ 0) own
 
--- These calls of caller 0 lead from the one depot to the other. The count of faults of its store doesn't fall.
+-- These calls of caller 0 lead from the one depot to the other: a log of the machine goes on as one. The count of faults of its store
+-- doesn't fall.
 pub record Calls {O : Type 0} (faults : O → ℕ) (old new : Seen O) (steps : List Step) : Type 0 where
   pub start : new.start ≡ old.start
   pub log : GoesOn old.log new.log steps
+  pub runs : IsRun (first_state old.start) old.log → IsRun (first_state new.start) new.log
   pub never_falls : faults old.origin ≤ faults new.origin
 
 -- the creation ended since the store failed

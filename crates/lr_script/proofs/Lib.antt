@@ -10,3 +10,4 @@ pub mod SureFields
 pub mod SureLines
 pub mod Either
 pub mod Longer
+pub mod Within

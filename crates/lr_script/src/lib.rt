@@ -7,11 +7,13 @@
 //! record, one function and one line in the table of what may come.
 #![tactic(auto)]
 
+mod copies;
 mod damage_jobs;
 mod depot_jobs;
 mod device_jobs;
 mod error;
 mod kind;
+mod laws;
 mod limits;
 mod parse;
 mod parts;
@@ -22,7 +24,9 @@ mod setup;
 mod step;
 mod words;
 
+pub use copies::copy_jobs;
 pub use error::ScriptError;
+pub use laws::scripts_are_within;
 pub use limits::{
     ACTORS_MOST, ALL_NODES_MOST, BYTE_LAST, BYTES_MOST, CACHE_MOST, CACHES_MOST, CALL_MOST,
     CALLS_MOST, CHUNK_LAST, COUNTS_MOST, CRASH_MOST, DEVICES_MOST, HOSTS_MOST, IMAGE_MOST,

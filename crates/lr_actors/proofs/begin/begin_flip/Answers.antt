@@ -1,14 +1,15 @@
-use Rattle.std.proofs.Common.{refl}
+use Rattle.std.proofs.Common.{arith, refl}
 use Rattle.lr_actors.specs.declared.single.Single.TheVariants.{Flip}
 use Rattle.lr_actors.specs.Jobs.{flips_stripe}
 use Rattle.lr_actors.specs.Jobs.{seen_context}
 use Rattle.lr_actors.specs.Places.{seen_place}
-use Rattle.lr_actors.proofs.Begins.{begun_single, begun_flip, begun_past}
+use Rattle.lr_actors.proofs.Begins.{begun_single, begun_flip, task_flip, begun_past}
 use Rattle.lr_actors.proofs.begin.begin_flip.Goals as goal
 
 pub returns-in-Some : goal.returns-in-Some
 returns-in-Some c =
     begun_single (seen_context c.args.context.now) (flips_stripe c.args.index c.args.device c.args.chunk c.args.at) (Flip c.place-node.result c.in-Some.name c.args.index c.args.at) c.new-job.result c.new-job.ensures.new c.new-job.ensures.stands
+    (task_flip (seen_context c.args.context.now) c.args.device c.args.index c.args.chunk c.args.at (seen_place c.place_at-place.result.now) c.in-Some.name c.place-node.result c.place_at-place.ensures c.in-Some.ensures c.place-node.ensures.node) (omega arith)
     (begun_flip (seen_context c.args.context.now) c.args.device c.args.index c.args.chunk c.args.at (seen_place c.place_at-place.result.now) c.in-Some.name c.place-node.result c.place_at-place.ensures c.in-Some.ensures c.place-node.ensures.node)
 
 pub returns-in-None : goal.returns-in-None

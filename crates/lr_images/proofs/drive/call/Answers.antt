@@ -14,5 +14,5 @@ returns-clause-turned g c = (
   admits (state c.args.depot.now.start c.args.depot.now.log) c.args.asked c.apply-reply.result (asked c.args.machine.now.need) c.requires.asked c.apply-reply.ensures.answers,
   λ base given d.
       drives_more g.O.Origin.faults base c.args.depot.now c.apply-reply.new.self c.args.machine.now c.take.new.self given c.args.asked c.apply-reply.result c.requires.asked c.apply-reply.ensures.fixed
-      c.apply-reply.ensures.logged c.apply-reply.ensures.never_falls c.apply-reply.ensures.cause c.take.ensures.next c.take.ensures.stands d,
+      c.apply-reply.ensures.answers c.apply-reply.ensures.logged c.apply-reply.ensures.never_falls c.apply-reply.ensures.cause c.take.ensures.next c.take.ensures.stands d,
 )

@@ -30,7 +30,7 @@ returns-in-Opened-clause-fault g c = if_err _ _ c.read_and_close.result
 pub returns-in-OutOfMemory-clause-walk : goal.returns-in-OutOfMemory-clause-walk
 returns-in-OutOfMemory-clause-walk g c = (
   step (opens c.args.image) memory ∷ [],
-  calls_one g.O.Origin.faults c.args.depot.now c.apply.new.self (OpenImage c.args.image) OutOfMemory c.in-OutOfMemory.ensures.fixed c.in-OutOfMemory.ensures.logged c.in-OutOfMemory.ensures.never_falls,
+  calls_one g.O.Origin.faults c.args.depot.now c.apply.new.self (OpenImage c.args.image) OutOfMemory c.in-OutOfMemory.ensures.fixed c.in-OutOfMemory.ensures.answers c.in-OutOfMemory.ensures.logged c.in-OutOfMemory.ensures.never_falls,
   open_memory c.args.image c.args.tenant.now.bytes,
   tt,
 )
@@ -41,7 +41,7 @@ returns-in-OutOfMemory-clause-kept g c = λ o told. open_store (state c.args.dep
 pub returns-in_default-clause-walk : goal.returns-in_default-clause-walk
 returns-in_default-clause-walk g c = (
   step (opens c.args.image) (seen_reply c.apply.result) ∷ [],
-  calls_one g.O.Origin.faults c.args.depot.now c.apply.new.self (OpenImage c.args.image) c.apply.result c.apply.ensures.fixed c.apply.ensures.logged c.apply.ensures.never_falls,
+  calls_one g.O.Origin.faults c.args.depot.now c.apply.new.self (OpenImage c.args.image) c.apply.result c.apply.ensures.fixed c.apply.ensures.answers c.apply.ensures.logged c.apply.ensures.never_falls,
   open_ends (state c.args.depot.now.start c.args.depot.now.log) c.args.image c.args.tenant.now.bytes c.apply.result c.apply.ensures.answers (not_opened c.apply.result c.in_default.not-Opened c.in_default.not-OutOfMemory),
   tt,
 )

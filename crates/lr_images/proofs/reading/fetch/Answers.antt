@@ -12,7 +12,7 @@ use Rattle.lr_images.proofs.reading.fetch.Goals as goal
 pub returns-in-Fetched-clause-walk : goal.returns-in-Fetched-clause-walk
 returns-in-Fetched-clause-walk g c = (
   step (fetches c.args.lease c.args.index) (fetched (sha256 (arc_value c.in-Fetched.chunk))) ∷ [],
-  calls_one g.O.Origin.faults c.args.depot.now c.apply.new.self (Fetch c.args.lease c.args.index) (Fetched c.in-Fetched.chunk) c.in-Fetched.ensures.fixed c.in-Fetched.ensures.logged c.in-Fetched.ensures.never_falls,
+  calls_one g.O.Origin.faults c.args.depot.now c.apply.new.self (Fetch c.args.lease c.args.index) (Fetched c.in-Fetched.chunk) c.in-Fetched.ensures.fixed c.in-Fetched.ensures.answers c.in-Fetched.ensures.logged c.in-Fetched.ensures.never_falls,
   refl,
 )
 
@@ -26,7 +26,7 @@ returns-in-Fetched-clause-fetched g c =
 pub returns-in-OutOfMemory-clause-walk : goal.returns-in-OutOfMemory-clause-walk
 returns-in-OutOfMemory-clause-walk g c = (
   step (fetches c.args.lease c.args.index) memory ∷ [],
-  calls_one g.O.Origin.faults c.args.depot.now c.apply.new.self (Fetch c.args.lease c.args.index) OutOfMemory c.in-OutOfMemory.ensures.fixed c.in-OutOfMemory.ensures.logged c.in-OutOfMemory.ensures.never_falls,
+  calls_one g.O.Origin.faults c.args.depot.now c.apply.new.self (Fetch c.args.lease c.args.index) OutOfMemory c.in-OutOfMemory.ensures.fixed c.in-OutOfMemory.ensures.answers c.in-OutOfMemory.ensures.logged c.in-OutOfMemory.ensures.never_falls,
   fetch_memory c.args.lease c.args.index,
 )
 
@@ -36,7 +36,7 @@ returns-in-OutOfMemory-clause-keeps g c = fetch_keeps g.O.Origin.objects c.args.
 pub returns-in_default-clause-walk : goal.returns-in_default-clause-walk
 returns-in_default-clause-walk g c = (
   step (fetches c.args.lease c.args.index) (seen_reply c.apply.result) ∷ [],
-  calls_one g.O.Origin.faults c.args.depot.now c.apply.new.self (Fetch c.args.lease c.args.index) c.apply.result c.apply.ensures.fixed c.apply.ensures.logged c.apply.ensures.never_falls,
+  calls_one g.O.Origin.faults c.args.depot.now c.apply.new.self (Fetch c.args.lease c.args.index) c.apply.result c.apply.ensures.fixed c.apply.ensures.answers c.apply.ensures.logged c.apply.ensures.never_falls,
   fetch_ends (state c.args.depot.now.start c.args.depot.now.log) c.args.lease c.args.index c.apply.result c.apply.ensures.answers (not_given c.apply.result c.in_default.not-Fetched c.in_default.not-OutOfMemory),
 )
 

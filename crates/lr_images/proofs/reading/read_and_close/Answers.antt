@@ -11,7 +11,7 @@ pub returns-clause-walk : goal.returns-clause-walk
 returns-clause-walk g c = (
   c.read_leased-read.ensures.walk.0 ++ step (closes c.args.lease) (seen_reply c.apply-closed.result) ∷ [],
   calls_on g.O.Origin.faults c.args.depot.now c.read_leased-read.new.depot c.apply-closed.new.self c.read_leased-read.ensures.walk.0 (step (closes c.args.lease) (seen_reply c.apply-closed.result) ∷ []) c.read_leased-read.ensures.walk.1
-      (calls_one g.O.Origin.faults c.read_leased-read.new.depot c.apply-closed.new.self (Close c.args.lease) c.apply-closed.result c.apply-closed.ensures.fixed c.apply-closed.ensures.logged c.apply-closed.ensures.never_falls),
+      (calls_one g.O.Origin.faults c.read_leased-read.new.depot c.apply-closed.new.self (Close c.args.lease) c.apply-closed.result c.apply-closed.ensures.fixed c.apply-closed.ensures.answers c.apply-closed.ensures.logged c.apply-closed.ensures.never_falls),
   close_after c.args.tenant.now.bytes c.args.lease c.args.manifest.now c.read_leased-read.ensures.walk.0 (end_of c.read_leased-read.result) (state c.read_leased-read.new.depot.start c.read_leased-read.new.depot.log) c.apply-closed.result c.apply-closed.ensures.answers c.read_leased-read.ensures.walk.2,
 )
 

@@ -1,0 +1,8 @@
+//! A script's actors, played over the parts that its setup lines gave.
+#![tactic(auto)]
+
+mod laws;
+mod perform;
+
+pub use laws::jobs_may_be_given;
+pub use perform::{Performed, Unperformed, perform};

@@ -1,0 +1,10 @@
+mod Joined
+mod Entries
+mod Keys
+mod Chunks
+mod Creating
+mod Opening
+mod Stopping
+mod Reached
+mod Leases
+mod Fits

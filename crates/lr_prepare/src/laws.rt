@@ -1,0 +1,28 @@
+//! Laws, as contracts of functions that do nothing.
+ghost use Rattle.std.specs.Prelude.{◌≡◌, ℕ, List, [], Some};
+ghost use Rattle.std.specs.List.{AllByRecursion};
+ghost use Rattle.std.specs.FinMap as map;
+ghost use Rattle.lr_script.specs.Seen.{ScriptSeen};
+ghost use Rattle.lr_script.specs.Grammar.{Spells};
+ghost use Rattle.lr_depot.specs.Begun.{Start};
+ghost use Rattle.lr_depot.specs.Depot.{IsStart, first_state, state};
+ghost use Rattle.lr_depot.specs.Machine.{LogEntry};
+ghost use Rattle.lr_depot.specs.Store.{IsRun};
+ghost use Rattle.lr_history.specs.Run.{DeviceLine};
+ghost use Rattle.lr_setup.specs.Setup.{SetupLine, devices_of, IsSetup};
+ghost use Rattle.lr_prepare.specs.Fit.{IsFit};
+
+use lr_depot::leases_last;
+
+/// Each script that the grammar spells can be set up.
+pub fn scripts_fit()
+    ensures { (bytes : List ℕ) (script : ScriptSeen) → Spells bytes script → IsFit script }
+{}
+
+/// After the setup each device's lease is out, on its image with its manifest.
+pub fn leases_are_out()
+    ensures { (start : Start) (lines : List SetupLine) (log : List LogEntry) → IsStart start → IsRun (first_state start) log → IsSetup (first_state start) [] lines log
+        → AllByRecursion (λ (d : DeviceLine). map.get (state start log).desk.leases d.lease ≡ Some (d.image, d.manifest)) (devices_of lines) }
+{
+    leases_last();
+}

@@ -1,0 +1,7 @@
+use Rattle.std.proofs.Common.{◌≡◌, ◌++◌, take}
+use Rattle.std.specs.List.{flat_map, enumerate_from}
+use Rattle.lr_report.specs.Report.{fetched_line}
+use Rattle.lr_report.proofs.depot.put_fetches.Given as goal
+
+abbrev pub invariant-loop-at : goal.invariant-loop-at
+invariant-loop-at l = l.out.items ≡ l.initial.out.items ++ flat_map (fetched_line l.log) (take l.at (enumerate_from 1 l.callers))

@@ -1,7 +1,0 @@
-mod Desking
-mod OneWord
-mod Padding
-mod Reading
-mod Reported
-mod Sealing
-mod Serving

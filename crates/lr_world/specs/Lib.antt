@@ -1,0 +1,4 @@
+pub mod Laws
+pub mod Calling
+pub mod World
+pub mod Runs
