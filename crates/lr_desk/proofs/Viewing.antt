@@ -1,6 +1,7 @@
 -- the text of a view, line by line
 use Rattle.std.proofs.Common.{◌≡◌, ◌≤◌, ◌<◌, ◌+◌, ℕ, zero, suc, List, [], ◌∷◌, ◌++◌, length, Option, Some, None, IsSome, refl, sym, ap, subst, ◌∙◌, inl, inr, arith, append-nil, append_assoc, add-one}
 use mathlib.Core.Logic.{◌⊎◌}
+use Rattle.std.specs.Prelude.{Result, Ok, Err, OnOk}
 use denote.Ref.{Bor}
 use Rattle.std.specs.Arc.{arc_value}
 use Rattle.std.specs.declared.sync.Arc.{Arc}
@@ -23,7 +24,8 @@ use Rattle.lr_roots.specs.Roots.{IsTop, IsRootState, IsHome, IsHomeless}
 use Rattle.lr_roots.specs.Names.{AreMany, IsOneOf, AreApart, AreFewer, IsNamed, IsNextImage, IsManifestOf, IsChunkOf}
 use Rattle.lr_roots.specs.Catalog.{manifest_of, arc_of}
 use Rattle.lr_roots.specs.Sound.{IsSound, Suits}
-use Rattle.lr_desk.specs.Roots.{root_head, root_counts, root_line, image_head, image_tail, image_line, IsRootLine, AreRootLines, IsRootsPart, IsServedWord, IsImageLine, IsInLive, AreImageLines, IsImagesPart, Adds}
+use Rattle.lr_rootlines.specs.RootLines.{root_line}
+use Rattle.lr_desk.specs.Roots.{image_head, image_tail, image_line, IsRootLine, AreRootLines, IsRootsPart, IsServedWord, IsImageLine, IsInLive, AreImageLines, IsImagesPart, Adds}
 
 no_some : {X : Type 0} (o : Option X) → o ≡ None → IsSome o → ⊥
 no_some {X = X} o e h = let i : IsSome {T = X} None = subst IsSome e h in cc
@@ -37,15 +39,15 @@ pub state_there : (v : View) (r : ℕ) (o : Option RootState) → Has v (Root r)
 state_there v r None has is = absurd (no_some _ is has)
 state_there v r (Some s) has is = refl
 
-pub root_line_made : (v : View) (r : ℕ) (o : Option RootState) (state : RootState) (images chunks : ℕ) (old mid new : List ℕ) → o ≡ Some state → IsRootState v r o
+pub root_line_put : {E : Type 0} (v : View) (r : ℕ) (o : Option RootState) (state : RootState) (images chunks : ℕ) (old new : List ℕ) (result : Result (Unit {0}) E) → o ≡ Some state → IsRootState v r o
     → AreMany (λ key. Has v key × IsManifestOf r key) images → AreMany (λ key. Has v key × IsChunkOf r key) chunks
-    → mid ≡ old ++ root_head r state → new ≡ mid ++ root_counts images chunks → Adds (IsRootLine v r) old new
-unfolding root_line
-root_line_made v r o state images chunks old mid new e is manifests bodies a b = (
-  root_head r state ++ root_counts images chunks,
+    → OnOk result (new ≡ old ++ root_line r state images chunks) → OnOk result (Adds (IsRootLine v r) old new)
+root_line_put v r o state images chunks old new (Ok x) e is manifests bodies put = (
+  root_line r state images chunks,
   record { state = state; images = images; chunks = chunks; is = subst (IsRootState v r) e is; manifests = manifests; bodies = bodies; text = refl },
-  b ∙ ap (λ l. l ++ root_counts images chunks) a ∙ append_assoc old (root_head r state) (root_counts images chunks),
+  put,
 )
+root_line_put v r o state images chunks old new (Err x) e is manifests bodies put = put
 
 pub no_roots : (v : View) (old : List ℕ) → Adds (AreRootLines v 0) old old
 no_roots v old = ([], refl, sym (append-nil old))

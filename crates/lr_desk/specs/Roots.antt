@@ -9,26 +9,7 @@ use Rattle.lr_roots.specs.View.{View, manifest, Has, Lacks}
 use Rattle.lr_roots.specs.Roots.{IsTop, IsLive, IsRootState, IsHome}
 use Rattle.lr_roots.specs.Names.{AreMany, IsOneOf, IsManifestOf, IsChunkOf}
 use Rattle.lr_roots.specs.declared.state.RootState.{RootState}
-use Rattle.lr_roots.specs.declared.state.RootState.TheVariants as state
-
--- a root's state in a word
-abbrev pub state_word : RootState → List ℕ
-state_word state.Active = codes "active"
-state_word state.Retired = codes "retired"
-state_word state.Expired = codes "expired"
-state_word state.Deleted = codes "deleted"
-
--- `root N STATE`
-abbrev pub root_head : ℕ → RootState → List ℕ
-root_head r s = codes "root " ++ (decimal r ++ (codes " " ++ state_word s))
-
--- ` images I chunks C`
-abbrev pub root_counts : ℕ → ℕ → List ℕ
-root_counts images chunks = codes " images " ++ (decimal images ++ (codes " chunks " ++ (decimal chunks ++ codes "\n")))
-
--- `root N STATE images I chunks C`
-unfoldable pub root_line : ℕ → RootState → ℕ → ℕ → List ℕ
-root_line r s images chunks = root_head r s ++ root_counts images chunks
+use Rattle.lr_rootlines.specs.RootLines.{root_line}
 
 -- the line of a root, with its state and the numbers of its manifest and chunk keys
 pub record IsRootLine (v : View) (r : ℕ) (line : List ℕ) : Type 0 where

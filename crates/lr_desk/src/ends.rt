@@ -120,7 +120,7 @@ pub(crate) fn of_migration(alloc: Global, end: MigrateEnd) -> Result<Vec<u8>, Ou
     }
 }
 
-// How a reply ends a command that it didn't do.
+/// How a reply ends a command that it didn't do.
 pub fn outcome_of_refusal(alloc: Global, reply: &DepotReply) -> Outcome
     ensures { result ≡ failure (outcome_of (seen_reply reply.now)) }
 {

@@ -1,5 +1,5 @@
 //! How a command ends: its status, and its line for standard error.
-ghost use Rattle.std.specs.Prelude.{◌≡◌, ◌++◌, ◌≤◌, codes, decimal, length, take};
+ghost use Rattle.std.specs.Prelude.{◌≡◌, ◌+◌, ◌++◌, ◌≤◌, codes, decimal, length, take};
 ghost use Rattle.lr_desk.specs.Outcome.{status_of, line_of, words_of, shown, printed};
 
 use itoa::Buffer;

@@ -5,47 +5,14 @@ ghost use Rattle.lr_roots.specs.View.{Has};
 ghost use Rattle.lr_roots.specs.Roots.{IsHome, IsHomeless};
 ghost use Rattle.lr_roots.specs.Names.{AreFewer, IsNamed};
 ghost use Rattle.lr_roots.specs.Sound.{IsSound};
-ghost use Rattle.lr_desk.specs.Roots.{state_word, root_head, root_counts, image_head, image_tail, IsRootLine, IsRootsPart, IsServedWord, IsImageLine, IsImagesPart, IsViewText, Adds};
+ghost use Rattle.lr_desk.specs.Roots.{image_head, image_tail, IsRootLine, IsRootsPart, IsServedWord, IsImageLine, IsImagesPart, IsViewText, Adds};
 
 use lr_origin::ImageName;
-use lr_roots::{Catalog, RootState};
+use lr_rootlines::put_root_line;
+use lr_roots::Catalog;
 use lr_spec::OutOfMemory;
 use lr_text::put_number;
 use std::alloc::Global;
-
-fn state_word(state: RootState) -> &'static [u8]
-    ensures { result.now ≡ state_word state }
-{
-    match state {
-        RootState::Active => b"active",
-        RootState::Retired => b"retired",
-        RootState::Expired => b"expired",
-        RootState::Deleted => b"deleted",
-    }
-}
-
-// Adds the front of a root's line.
-fn put_root_head(out: &mut Vec<u8>, root: u32, state: RootState) -> Result<(), OutOfMemory>
-    ensures { OnOk result (out.new.items ≡ out.old.items ++ root_head root state) }
-{
-    out.extend_from_slice(b"root ")?;
-    put_number(out, u64::from(root))?;
-    out.extend_from_slice(b" ")?;
-    out.extend_from_slice(state_word(state))?;
-    Ok(())
-}
-
-// Adds the counts of a root's line.
-fn put_root_counts(out: &mut Vec<u8>, images: u32, chunks: u64) -> Result<(), OutOfMemory>
-    ensures { OnOk result (out.new.items ≡ out.old.items ++ root_counts images chunks) }
-{
-    out.extend_from_slice(b" images ")?;
-    put_number(out, u64::from(images))?;
-    out.extend_from_slice(b" chunks ")?;
-    put_number(out, chunks)?;
-    out.extend_from_slice(b"\n")?;
-    Ok(())
-}
 
 // Adds the line of a root that is there.
 fn put_root(out: &mut Vec<u8>, catalog: &Catalog, root: u32) -> Result<(), OutOfMemory>
@@ -54,9 +21,7 @@ fn put_root(out: &mut Vec<u8>, catalog: &Catalog, root: u32) -> Result<(), OutOf
 {
     let state = catalog.state(root).unwrap();
     let (images, chunks) = catalog.counts(root);
-    put_root_head(out, root, state)?;
-    put_root_counts(out, images, chunks)?;
-    Ok(())
+    put_root_line(out, root, state, images, chunks)
 }
 
 // Adds the lines of all roots.

@@ -157,7 +157,7 @@ fn made<O: Origin, I: Source>(
     }
 }
 
-// Writes a text.
+/// Writes a text: all of it, or a front where the sink fails.
 pub fn written<W: Sink>(sink: &mut W, text: &[u8]) -> Outcome
     ensures written { IsWritten (W.written sink.old) text.now (W.written sink.new) result }
     ensures read { result ≢ outcome.ReadFault }
@@ -212,7 +212,7 @@ fn unstarted<O: Origin>(alloc: Global, outcome: Outcome, origin: O) -> Done<O>
     }
 }
 
-// How a command ends whose depot didn't start.
+/// How a command ends whose depot didn't start.
 pub fn outcome_of_cause(cause: StartCause) -> Outcome
     ensures { result ≡ cause_of cause }
 {

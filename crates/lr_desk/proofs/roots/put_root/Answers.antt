@@ -1,4 +1,4 @@
-use Rattle.lr_desk.proofs.Viewing.{state_there, root_line_made}
+use Rattle.lr_desk.proofs.Viewing.{state_there, root_line_put}
 use Rattle.lr_desk.proofs.roots.put_root.Goals as goal
 
 pub unwrap-state-requires : goal.unwrap-state-requires
@@ -6,5 +6,5 @@ unwrap-state-requires c = state_there c.args.catalog.now.view c.args.root c.stat
 
 pub returns : goal.returns
 returns c =
-    root_line_made c.args.catalog.now.view c.args.root c.state.result c.unwrap-state.result c.counts-images.result.0 c.counts-images.result.1 c.args.out.now.items c.put_root_head.new.out.items c.put_root_counts.new.out.items
-    c.unwrap-state.ensures c.state.ensures c.counts-images.ensures.manifests c.counts-images.ensures.chunks c.in_ok-put_root_head.ensures c.in_ok-put_root_counts.ensures
+    root_line_put c.args.catalog.now.view c.args.root c.state.result c.unwrap-state.result c.counts-images.result.0 c.counts-images.result.1 c.args.out.now.items c.put_root_line.new.out.items c.put_root_line.result
+    c.unwrap-state.ensures c.state.ensures c.counts-images.ensures.manifests c.counts-images.ensures.chunks c.put_root_line.ensures
