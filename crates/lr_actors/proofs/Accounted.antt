@@ -31,10 +31,10 @@ slice_get-end : {X : Type 0} (xs : List X) (x : X) → slice_get (xs ++ x ∷ []
 slice_get-end [] x = refl
 slice_get-end (y ∷ xs) x = slice_get-end xs x
 
-some_same : {X : Type 0} (x y : X) → Some y ≡ Some x → x ≡ y
+pub some_same : {X : Type 0} (x y : X) → Some y ≡ Some x → x ≡ y
 some_same x y e = cc
 
-slice_get-more : {X : Type 0} (xs : List X) (y : X) (i : ℕ) (x : X) → slice_get (xs ++ y ∷ []) i ≡ Some x → (slice_get xs i ≡ Some x) ⊎ ((i ≡ length xs) × (x ≡ y))
+pub slice_get-more : {X : Type 0} (xs : List X) (y : X) (i : ℕ) (x : X) → slice_get (xs ++ y ∷ []) i ≡ Some x → (slice_get xs i ≡ Some x) ⊎ ((i ≡ length xs) × (x ≡ y))
 slice_get-more [] y zero x e = inr (refl, some_same x y e)
 slice_get-more [] y (suc i) x e = cc
 slice_get-more (z ∷ xs) y zero x e = inl e
@@ -111,7 +111,7 @@ reads_one old new d s x r = (r.0, at d.memory r.1)
     at true m = m
     at false e = rw (x d.object).1 (slice_get-extended (old d.object) (x d.object).0 d.place s e)
 
-reads_extended : (old new : Lists) (path : List Did) (steps : List Step) → Extends old new → Reads old path steps → Reads new path steps
+pub reads_extended : (old new : Lists) (path : List Did) (steps : List Step) → Extends old new → Reads old path steps → Reads new path steps
 reads_extended old new [] [] x r = tt
 reads_extended old new [] (s ∷ steps) x r = absurd r
 reads_extended old new (d ∷ path) [] x r = absurd r
@@ -129,7 +129,7 @@ places_cond : (b : Bool) (xs : List ℕ) (d : Did) → xs ++ map (λ (c : Did). 
 places_cond true xs d = refl
 places_cond false xs d = refl
 
-places_more : (o : ObjectId) (path : List Did) (d : Did) → places_in o (path ++ d ∷ []) ≡ places_in o path ++ cond (is_entry_of o d) (d.place ∷ []) []
+pub places_more : (o : ObjectId) (path : List Did) (d : Did) → places_in o (path ++ d ∷ []) ≡ places_in o path ++ cond (is_entry_of o d) (d.place ∷ []) []
 places_more o path d =
     ap (map (λ (c : Did). c.place)) (filter-append (is_entry_of o) path (d ∷ []))
     ∙ (map_append (λ (c : Did). c.place) (filter (is_entry_of o) path) (filter (is_entry_of o) (d ∷ [])) ∙ places_cond (is_entry_of o d) (places_in o path) d)
@@ -142,7 +142,7 @@ places_step : (o : ObjectId) (a : Account) (s : Step) → places_of o (with_step
 places_step o a s =
     ap (λ (l : List ℕ). places o a.results ++ l) (places_more o a.path (did_of a s)) ∙ sym (append_assoc (places o a.results) (places_in o a.path) (cond (is_entry_of o (did_of a s)) ((did_of a s).place ∷ []) []))
 
-places_end : (o : ObjectId) (a : Account) (r : JobResult) → r.path.items ≡ a.path → places_of o (with_result a r) ≡ places_of o a
+pub places_end : (o : ObjectId) (a : Account) (r : JobResult) → r.path.items ≡ a.path → places_of o (with_result a r) ≡ places_of o a
 places_end o a r e = append-nil (places o (a.results ++ r ∷ [])) ∙ (places_push o a.results r ∙ ap (λ (p : List Did). places o a.results ++ places_in o p) e)
 
 entry_place : (o : ObjectId) (a : Account) (s : Step) (b : Bool) → not b && is_same (object_of s.call) o ≡ true → cond b 0 (length (places_of (object_of s.call) a)) ≡ length (places_of o a)
@@ -165,7 +165,7 @@ whole_step lists after o a s false n g h = by (is_same (object_of s.call) o) ref
     by true e = rw (g o, e) (length_push (lists o) s ∙ (ap (λ (m : ℕ). m + 1) h ∙ sym (length_push (places_of o a) n)))
     by false e = rw (g o, e, append-nil) h
 
-walk_extended : (context : Context) (old new : Lists) (job : Job) (path : List Did) (answer : Answer) → Extends old new → HasWalk context old job path answer → HasWalk context new job path answer
+pub walk_extended : (context : Context) (old new : Lists) (job : Job) (path : List Did) (answer : Answer) → Extends old new → HasWalk context old job path answer → HasWalk context new job path answer
 walk_extended context old new job path answer x w = (w.0, reads_extended old new path w.0 x w.1, w.2)
 
 step_at : (lists after : Lists) (a : Account) (s : Step) (b : Bool) → is_memory s.reply ≡ b → Grows b lists after s → length (lists (object_of s.call)) ≡ length (places_of (object_of s.call) a)

@@ -222,18 +222,18 @@ pub record IsSame (old new : Seen) : Type 0 where
   pub crash : new.crash ≡ old.crash
 
 -- A new actor: no step made, and it stands for empty lists.
-pub record IsNew (number : ℕ) (context : Context) (hosts : ℕ) (jobs : List Job) (crash : Option ℕ) (a : Seen) : Type 0 where
-  pub number : a.number ≡ number
-  pub context : a.context ≡ context
-  pub hosts : a.hosts ≡ hosts
-  pub jobs : a.jobs ≡ jobs
-  pub crash : a.crash ≡ crash
+pub record IsNew (n : ℕ) (given : Context) (h : ℕ) (js : List Job) (at : Option ℕ) (a : Seen) : Type 0 where
+  pub number : a.number ≡ n
+  pub context : a.context ≡ given
+  pub hosts : a.hosts ≡ h
+  pub jobs : a.jobs ≡ js
+  pub crash : a.crash ≡ at
   pub is : IsActor a
   pub steps : a.steps ≡ 0
   pub made : steps_made a ≡ 0
   pub out : a.out ≡ false
   pub stands : StandsFor a (λ (o : ObjectId). [])
-  pub left : left a ≤ bounds_of jobs + reaps_ahead crash a
+  pub left : left a ≤ bounds_of js + reaps_ahead at a
 
 -- what it asks now
 abbrev pub asks_now : Now → Seen → Asked

@@ -125,6 +125,8 @@ pub record IsOut (old new : Running) : Type 0 where
   pub call : asked new ≡ asked old
   pub out : is_ready new ≡ false
   pub stands : (steps : List Step) → StandsFor old steps → StandsFor new steps
+  pub stood : (steps : List Step) → StandsFor new steps → StandsFor old steps
+  pub admits : (reply : Reply) → Admits new reply → Admits old reply
   pub knows : (steps : List Step) → Knows old steps → Knows new steps
   pub left : steps_left new ≡ steps_left old
   pub front : (steps more : List Step) (reply : Reply) → Admits old reply → Adds (asked old) reply more → StandsFor old steps → IsFront (Walk (task_of old)) (steps ++ more)

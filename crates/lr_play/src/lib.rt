@@ -2,7 +2,7 @@
 #![tactic(auto)]
 
 mod laws;
-mod perform;
+mod play;
 
 pub use laws::jobs_may_be_given;
-pub use perform::{Performed, Unperformed, perform};
+pub use play::{Performed, Unperformed, perform};

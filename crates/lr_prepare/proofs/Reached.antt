@@ -3,7 +3,7 @@ use Rattle.std.proofs.Common.{◌≡◌, ◌≤◌, ◌<◌, ℕ, zero, suc, ◌
 use Rattle.std.specs.Prelude.{Result, IfErr, Err}
 use Rattle.std.specs.List.{AllByRecursion}
 use Rattle.std.proofs.Math.Seq.{take-suc, drop-cons}
-use Rattle.std.proofs.lemmas.List.{map-append, take-append-drop, take_all}
+use Rattle.std.proofs.lemmas.List.{length-map, map-append, take-append-drop, take_all}
 use Rattle.lr_spec.specs.Rose.{Rose}
 use Rattle.lr_images.proofs.Calling.{rose_before}
 use Rattle.lr_depot.specs.Begun.{Start}
@@ -14,18 +14,23 @@ use Rattle.lr_walk.specs.Depot.{Step}
 use Rattle.lr_images.specs.Drive.{Calls}
 use Rattle.lr_images.proofs.Made.{run_rest}
 use Rattle.lr_walk.specs.Calls.{DevicePlace}
+use Rattle.lr_actors.specs.declared.place.Parts.{Parts}
+use Rattle.lr_actors.specs.declared.place.Context.{Context}
 use Rattle.lr_actors.specs.Places.{seen_place, IsPlace}
 use Rattle.lr_script.specs.declared.script.Setup.{Setup}
-use Rattle.lr_script.specs.Seen.{SetupSeen, Host, Root, Image, Device, setup_seen}
+use Rattle.lr_script.specs.Limits.{hosts_most}
+use Rattle.lr_script.specs.Seen.{ScriptSeen, SetupSeen, Host, Root, Image, Device, setup_seen}
 use Rattle.lr_history.specs.Run.{DeviceLine}
 use Rattle.lr_history.proofs.Public.{all_append}
 use Rattle.lr_setup.specs.Setup.{SetupLine, images_of, devices_of, IsSetup}
 use Rattle.lr_prepare.specs.declared.draft.Draft.{Draft}
 use Rattle.lr_prepare.specs.declared.error.SetupError.{SetupError}
-use Rattle.lr_prepare.specs.Fit.{HasRoom}
+use Rattle.lr_prepare.specs.declared.error.SetupError.TheVariants as error
+use Rattle.lr_prepare.specs.Fit.{HasRoom, IsFit}
 use Rattle.lr_prepare.specs.Lines.{seen_lines, unnumbered, capacities, AreDoneAs}
-use Rattle.lr_prepare.specs.New.{new_device, new_cache, place_at, IsDone, HasDone}
+use Rattle.lr_prepare.specs.New.{new_device, new_cache, new_node, place_at, IsDone, HasDone}
 use Rattle.lr_prepare.specs.Stopped.{IsStopped, StopsFirst, IsLeft}
+use Rattle.lr_prepare.specs.Prepared.{IsPrepared}
 use Rattle.lr_prepare.proofs.Joined.{done_as_more, done_as_one, images-append, devices-append, capacities-append, setup_more}
 
 -- ---- the lines so far
@@ -131,3 +136,50 @@ pub room_at : (lines : List (ℕ × Setup)) (i : ℕ) (x : ℕ × Setup) → i <
 room_at [] i x less at h = absurd (omega arith)
 room_at (y ∷ lines) zero x less at h = subst (λ (z : ℕ × Setup). AllByRecursion HasRoom (capacities (setup_seen z.1 ∷ []))) at (room_one (setup_seen y.1) (unnumbered (seen_lines lines)) h).0
 room_at (y ∷ lines) (suc i) x less at h = room_at lines i x (omega arith) at (room_one (setup_seen y.1) (unnumbered (seen_lines lines)) h).1
+
+-- ---- the whole
+
+first_stop : (setup : List (ℕ × SetupSeen)) → StopsFirst setup [] error.OutOfMemory
+first_stop [] = (refl, refl)
+first_stop (line ∷ setup) = inr (refl, refl)
+
+pub none_left : {O : Type 0} (now : Seen O) (setup : List (ℕ × SetupSeen)) → now.log ≡ [] → IsLeft now.start setup now.log error.OutOfMemory
+none_left now setup log = record {
+  front = [];
+  rest = setup;
+  all = refl;
+  lines = [];
+  are = refl;
+  done = [];
+  ran = refl;
+  steps = [];
+  goes_on = record { own = []; after = log; steps_of = refl; callers = tt };
+  legal = subst (IsRun (first_state now.start)) (sym log) tt;
+  stopped = first_stop setup;
+}
+
+pub few_caches : {O : Type 0} (now : Seen O) (draft : Draft) (lines : List (ℕ × Setup)) (script : ScriptSeen) → seen_lines lines ≡ script.setup → HasDone (unnumbered (seen_lines lines)) now draft → IsFit script → length draft.caches.items ≤ hosts_most
+few_caches now draft lines script same done fit =
+    subst (λ (n : ℕ). n ≤ hosts_most) (sym (ap length done.caches ∙ (length-map (capacities (unnumbered (seen_lines lines))) new_cache ∙ ap (λ (l : List (ℕ × SetupSeen)). length (capacities (unnumbered l))) same))) fit.few
+
+pub prepared_of : {O : Type 0} (script : ScriptSeen) (depot now : Seen O) (draft : Draft) (lines : List (ℕ × Setup)) (parts : Parts O) (context : Context) → seen_lines lines ≡ script.setup → now.start ≡ depot.start
+    → HasDone (unnumbered (seen_lines lines)) now draft → parts.devices.items ≡ draft.devices.items → parts.caches.items ≡ draft.caches.items → parts.nodes.items ≡ replicate script.nodes (new_node script.cap) → parts.depot ≡ now
+    → context.devices.items ≡ draft.places.items → context.hosts ≡ length draft.caches.items → context.nodes ≡ script.nodes → IsPrepared script depot parts context
+prepared_of script depot now draft lines parts context same start done devices caches nodes depot_is places hosts count =
+    let setup : unnumbered (seen_lines lines) ≡ unnumbered script.setup = ap unnumbered same in
+    let begun : parts.depot.start ≡ depot.start = ap (λ s. s.start) depot_is ∙ start in
+    let log : now.log ≡ parts.depot.log = ap (λ s. s.log) (sym depot_is) in
+    let all : map new_cache (capacities (unnumbered (seen_lines lines))) ≡ map new_cache (capacities (unnumbered script.setup)) = ap (λ (l : List SetupSeen). map new_cache (capacities l)) setup in
+    record {
+      lines = done.lines;
+      are = subst (λ (l : List SetupSeen). AreDoneAs l done.lines) setup done.are;
+      start = begun;
+      legal = subst (IsRun (first_state depot.start)) log (subst (λ (s : Start). IsRun (first_state s) now.log) start done.legal);
+      ran = subst (IsSetup (first_state depot.start) [] done.lines) log (subst (λ (s : Start). IsSetup (first_state s) [] done.lines now.log) start done.ran);
+      devices = devices ∙ done.devices;
+      caches = caches ∙ (done.caches ∙ all);
+      nodes = nodes;
+      shared = λ i. record { devices = (ap (map seen_place) places ∙ done.places) i; nodes = count i };
+      hosts = hosts ∙ (ap length done.caches ∙ (length-map (capacities (unnumbered (seen_lines lines))) new_cache ∙ ap (λ (l : List SetupSeen). length (capacities l)) setup));
+      keys = done.keys;
+    }

@@ -10,6 +10,8 @@ mod error;
 mod laws;
 mod lines;
 mod preparing;
+#[cfg(test)]
+mod tests;
 
 pub use error::SetupError;
 pub use laws::{leases_are_out, scripts_fit};

@@ -1,1 +1,15 @@
-pub mod Seen
+mod Facts
+mod Seen
+mod Told
+mod Out
+mod Tables
+mod Logging
+mod Made
+mod Leases
+mod Hands
+mod Depots
+mod Under
+mod Calling
+mod Admitted
+mod Gained
+mod Gains

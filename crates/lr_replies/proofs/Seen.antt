@@ -1,5 +1,5 @@
 -- Walks of jobs and trails, as the history of a run sees them.
-use Rattle.std.proofs.Common.{◌≡◌, ◌<◌, ℕ, zero, suc, List, [], ◌∷◌, ◌++◌, length, map, Some, None, slice_get, Option, refl, sym, ap, ◌∙◌, subst, inl, inr, arith}
+use Rattle.std.proofs.Common.{◌≡◌, ◌<◌, ℕ, zero, suc, List, [], ◌∷◌, ◌++◌, length, map, Some, None, slice_get, Option, refl, sym, subst, inl, inr, arith}
 use Rattle.std.specs.List.{AllByRecursion, AllZip}
 use Rattle.lr_spec.specs.Rose.{next_count}
 use Rattle.lr_manifest.specs.declared.name.Name.{Name}
@@ -7,7 +7,7 @@ use Rattle.lr_stripe.specs.declared.stripe.Stripe.{Stripe}
 use Rattle.lr_walk.specs.declared.trail.Answer.{Answer}
 use Rattle.lr_walk.specs.declared.trail.Answer.TheVariants.{Cut, Unbegun, Forged, Dropped, Flipped, Memory}
 use Rattle.lr_walk.specs.declared.trail.JobResult.{JobResult}
-use Rattle.lr_walk.specs.Walk.{Walks, Ends, Or}
+use Rattle.lr_walk.specs.Walk.{Walks, Ends}
 use Rattle.lr_walk.specs.Steps.{Call, on_cache, on_node, on_depot, Reply, by_cache, by_node, by_depot, Step, Asks, depot_step}
 use Rattle.lr_walk.specs.Stripes.{node_at}
 use Rattle.lr_walk.specs.Cache as caches
@@ -15,7 +15,7 @@ use Rattle.lr_walk.specs.Node as nodes
 use Rattle.lr_walk.specs.Depot as depots
 use Rattle.lr_walk.specs.Calls.{DevicePlace}
 use Rattle.lr_walk.specs.Damage.{after_evict, after_loss, Damages, after_damage, DropsStripe, FlipsStripe, forged_so_far, PutsForged, Forges}
-use Rattle.lr_walk.specs.Jobs.{Context, after_depot, AsksDepot}
+use Rattle.lr_walk.specs.Jobs.{Context, after_depot}
 use Rattle.lr_walk.specs.Trails.{Lists, Reads}
 use Rattle.lr_collector.specs.declared.collect.CollectJob.{CollectJob}
 use Rattle.lr_collector.specs.declared.collect.CollectJob.TheVariants as collect
@@ -23,14 +23,14 @@ use Rattle.lr_collector.specs.Collection as collections
 use Rattle.lr_migrator.specs.Migration as migrations
 use Rattle.lr_creator.specs.declared.create.Place.{Place}
 use Rattle.lr_creator.specs.Creation as creations
-use Rattle.lr_history.specs.Jobs.{JobSeen, IsApart, IsAnother, StaysApart, WalksSeen, OrCut, HasTrailSeen}
+use Rattle.lr_history.specs.Jobs.{JobSeen, IsApart, IsAnother, StaysApart, WalksSeen, OrCut}
 use Rattle.lr_actors.specs.Lifted.{OfDepot, answer_to}
-use Rattle.lr_actors.specs.Collecting.{collected, IsRemoval, Stops, Collecting}
-use Rattle.lr_actors.specs.Migrating.{migrated, Migrating}
-use Rattle.lr_actors.specs.Creating.{created, CreatesAll, Creating}
+use Rattle.lr_actors.specs.Collecting.{collected, IsRemoval, Stops}
+use Rattle.lr_actors.specs.Migrating.{migrated}
+use Rattle.lr_actors.specs.Creating.{created, CreatesAll}
 use Rattle.lr_actors.specs.Jobs.{Job, calls, creates, migrates, collects, closes, evicts, drops_stripe, flips_stripe, forges, loses, MakesJob, WalksJob, IsWalk}
 use Rattle.lr_actors.specs.Actor.{MayBeGiven}
-use Rattle.lr_actors.specs.Records.{HasWalk, HasTrail}
+use Rattle.lr_actors.specs.Records.{HasWalk}
 use Rattle.lr_replies.specs.Seen.{seen_job, JobsAreSeen, TrailsAreSeen}
 
 -- ---- endings

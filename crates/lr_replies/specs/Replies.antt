@@ -1,5 +1,5 @@
 -- What replies mean to an actor: it takes each one that an object gives it, whatever the others do.
-use Rattle.std.specs.Prelude.{◌≡◌, ◌≢◌, ◌≤◌, ◌*◌, ℕ, List, [], length, Option, Some, slice_get, ⊤}
+use Rattle.std.specs.Prelude.{◌≡◌, ◌≢◌, ◌≤◌, ◌*◌, ℕ, List, [], length, Some, slice_get, ⊤}
 use Rattle.std.specs.FinMap as map
 use Rattle.lr_object.specs.declared.id.ObjectId.{ObjectId}
 use Rattle.lr_object.specs.Grown.{Grown}

@@ -1,5 +1,6 @@
 //! Laws, as contracts of functions that do nothing.
 ghost use Rattle.lr_replies.specs.Seen.{JobsAreSeen, TrailsAreSeen};
+ghost use Rattle.lr_replies.specs.Replies.{RepliesAreAdmitted, ListsGain, LogsStayMade, LeasesStayOut};
 
 /// Each walk of an actor's job is one of what a history sees of the job.
 pub fn jobs_are_seen()
@@ -9,4 +10,28 @@ pub fn jobs_are_seen()
 /// A trail of an actor is one over what a history sees of its jobs.
 pub fn trails_are_seen()
     ensures { TrailsAreSeen }
+{}
+
+/// An actor that stands for its own lists takes each reply that the called object gives, whatever the others did.
+pub fn replies_are_admitted()
+    ensures { RepliesAreAdmitted }
+{
+    lr_history::calls_fit();
+}
+
+/// A call adds to its caller's own lists what the actor gains by the reply, and nothing to the lists of others.
+pub fn lists_gain()
+    ensures { ListsGain }
+{
+    lr_history::calls_fit();
+}
+
+/// A log that calls made is one after a further call.
+pub fn logs_stay_made()
+    ensures { LogsStayMade }
+{}
+
+/// A lease that is out stays out, but for a Close of it.
+pub fn leases_stay_out()
+    ensures { LeasesStayOut }
 {}
