@@ -58,12 +58,12 @@ part_of context hosts p = record { number = p.number; context = context; hosts =
 
 -- The actors played in the order of the schedule, and then the after part alone, over the parts that the setup lines gave. Each log has
 -- only entries of theirs more, and what is left is what a run leaves.
-pub record IsPlayed {O : Type 0} (script : ScriptSeen) (lines : List SetupLine) (context : Kept) (before after : Parts O) (trails : List Trail) : Type 0 where
-  pub grew : Grew (map (part_of (seen_context context) context.hosts) (players_of script)) (objects_in before) (objects_in after)
-  pub trails : AllZip (IsTrail (seen_context context) (objects_in after)) (players_of script) trails
+pub record IsPlayed {O : Type 0} (script : ScriptSeen) (lines : List SetupLine) (context : Kept) (old new : Parts O) (told : List Trail) : Type 0 where
+  pub grew : Grew (map (part_of (seen_context context) context.hosts) (players_of script)) (objects_in old) (objects_in new)
+  pub trails : AllZip (IsTrail (seen_context context) (objects_in new)) (players_of script) told
   pub front : List Trail
   pub last : List Trail
-  pub parts : trails ≡ front ++ last
+  pub parts : told ≡ front ++ last
   pub actors : AllZip (FitsSchedule script.schedule) (actors_of script) front
   pub after : AllZip (FitsSchedule Serial) (after_of script) last
-  pub closing : IsClosing (closing_of script lines context after trails)
+  pub closing : IsClosing (closing_of script lines context new told)

@@ -1,5 +1,6 @@
 -- What a play did, from the start of the depot to its end, and the headline.
 use Rattle.std.specs.Prelude.{◌≡◌, ℕ, List, [], ◌++◌, length, Option, Some, slice_get}
+use Rattle.std.specs.Arc.{arc_value}
 use Rattle.lr_spec.specs.Told.{Told}
 use Rattle.lr_layout.specs.Padded.{padded_length}
 use Rattle.lr_origin.specs.Objects.{Objects}
@@ -27,7 +28,7 @@ use Rattle.lr_report.specs.declared.run.OpenedDevice.{OpenedDevice}
 pub record IsOpened (line : DeviceLine) (o : OpenedDevice) : Type 0 where
   pub image : o.image ≡ line.image
   pub length : o.length ≡ padded_length line.manifest.raw_len
-  pub names : o.names.items ≡ line.manifest.names
+  pub names : (arc_value o.manifest).names ≡ line.manifest.names
 
 -- .. for each device line
 pub record AreOpened (lines : List DeviceLine) (opened : List OpenedDevice) : Type 0 where

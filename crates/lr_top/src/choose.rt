@@ -10,7 +10,7 @@ ghost use Rattle.lr_top.specs.Top.{IsReadAs, MatchRun, IfRun, IfCommand, log_of,
 ghost use Rattle.lr_top.specs.declared.outcome.RunRecord.TheVariants as record_of;
 
 use crate::outcome::{Outcome, RunRecord};
-use crate::play::play;
+use crate::playing::play;
 use lr_depot::DepotLog;
 use lr_desk::{Done, commands};
 use lr_io::{Sink, Source};
@@ -102,6 +102,7 @@ pub fn top<O: Origin, I: Source, W: Sink>(
     ensures reported { IfRun result.run (λ run. result.status ≡ 0 → Appends (W.written sink.old) (report_text run) (W.written sink.new)) }
     ensures front { IfRun result.run (λ run. AppendsFront (W.written sink.old) (report_text run) (W.written sink.new)) }
     ensures unstarted { MatchRun result.run ((result.status ≢ 0) × (result.status ≢ 5) × (W.written sink.new ≡ W.written sink.old)) (λ _. Unit {0}) }
+    ensures stopped { map string_bytes words.now ≡ codes "play" ∷ [] → IfCommand result.run (λ _. (result.status ≢ 0) × (result.status ≢ 5) × (W.written sink.new ≡ W.written sink.old)) }
 {
     if is_play(words) {
         return play(alloc, source, sink, origin);

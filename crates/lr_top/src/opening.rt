@@ -2,6 +2,7 @@
 ghost use Rattle.std.specs.Prelude.{◌≡◌, ◌++◌, length, map, IfOk, OnOk};
 ghost use Rattle.lr_script.specs.Seen.{setup_seen};
 ghost use Rattle.lr_actors.specs.Places.{seen_place};
+ghost use Rattle.lr_prepare.specs.Lines.{seen_lines};
 ghost use Rattle.lr_top.specs.Opening.{image_opened, images_opened, IsOpenedAs, AreOpened};
 
 use lr_actors::DevicePlace;
@@ -11,6 +12,7 @@ use lr_report::{OpenedDevice, Opening};
 use lr_script::{Script, Setup};
 use lr_spec::OutOfMemory;
 use std::alloc::Global;
+use std::sync::Arc;
 
 // Adds the image of a `device` line.
 fn add_image(images: &mut Vec<ImageName>, line: &Setup) -> Result<(), OutOfMemory>
@@ -25,49 +27,59 @@ fn add_image(images: &mut Vec<ImageName>, line: &Setup) -> Result<(), OutOfMemor
 }
 
 // The images of the devices, in the order of their lines.
-fn images_of(alloc: Global, script: &Script) -> Result<Vec<ImageName>, OutOfMemory>
-    ensures { IfOk result (λ images. images.items ≡ images_opened script.now) }
+fn images_of(alloc: Global, setup: &[(u32, Setup)]) -> Result<Vec<ImageName>, OutOfMemory>
+    ensures { IfOk result (λ images. images.items ≡ images_opened (seen_lines setup.now)) }
 {
     let mut images = Vec::new(alloc);
-    for (_, line) in &script.setup {
-        add_image(&mut images, line)?;
+    for line in setup {
+        add_image(&mut images, &line.1)?;
     }
     Ok(images)
 }
 
 // A device that was opened.
-fn open_one(alloc: Global, image: ImageName, device: &Device, place: &DevicePlace) -> Result<OpenedDevice, OutOfMemory>
+fn open_one(image: ImageName, device: &Device, place: &DevicePlace) -> Result<OpenedDevice, OutOfMemory>
     ensures { IfOk result (λ o. IsOpenedAs image device.now (seen_place place.now) o) }
 {
-    let names = Vec::from_slice(alloc, place.manifest.names())?;
+    let manifest = Arc::try_clone(&place.manifest)?;
     Ok(OpenedDevice {
         image,
         length: device.size(),
-        names,
+        manifest,
     })
 }
 
 // The devices of these images, each with its place.
-fn open_each(alloc: Global, images: &[ImageName], devices: &[Device], places: &[DevicePlace]) -> Result<Vec<OpenedDevice>, OutOfMemory>
+fn open_each(
+    alloc: Global,
+    images: &[ImageName],
+    devices: &[Device],
+    places: &[DevicePlace],
+) -> Result<Vec<OpenedDevice>, OutOfMemory>
     requires devices { length devices.now ≡ length images.now }
     requires places { length places.now ≡ length images.now }
     ensures { IfOk result (λ v. AreOpened images.now devices.now (map seen_place places.now) v.items) }
 {
     let mut opened = Vec::new(alloc);
     for at in 0..images.len() {
-        let one = open_one(alloc, images[at], &devices[at], &places[at])?;
+        let one = open_one(images[at], &devices[at], &places[at])?;
         opened.push(one)?;
     }
     Ok(opened)
 }
 
-/// What the `device` lines of a script opened: for each its image, the bytes of its device and the names of its chunks.
-pub(crate) fn opening_of(alloc: Global, script: &Script, devices: &[Device], places: &[DevicePlace]) -> Result<Opening, OutOfMemory>
-    requires devices { length devices.now ≡ length (images_opened script.now) }
-    requires places { length places.now ≡ length (images_opened script.now) }
-    ensures { IfOk result (λ o. AreOpened (images_opened script.now) devices.now (map seen_place places.now) o.devices.items) }
+/// What the `device` lines of a script opened: for each its image, the bytes of its device and its manifest.
+pub(crate) fn opening_of(
+    alloc: Global,
+    script: &Script,
+    devices: &[Device],
+    places: &[DevicePlace],
+) -> Result<Opening, OutOfMemory>
+    requires devices { length devices.now ≡ length (images_opened script.now.setup) }
+    requires places { length places.now ≡ length (images_opened script.now.setup) }
+    ensures { IfOk result (λ o. AreOpened (images_opened script.now.setup) devices.now (map seen_place places.now) o.devices.items) }
 {
-    let images = images_of(alloc, script)?;
+    let images = images_of(alloc, &script.setup)?;
     let devices = open_each(alloc, &images, devices, places)?;
     Ok(Opening { devices })
 }

@@ -1,11 +1,11 @@
 //! Scripts that are played.
-ghost use Rattle.std.specs.Prelude.{◌≡◌, ◌⊎◌, ℕ, [], ⊤};
+ghost use Rattle.std.specs.Prelude.{◌≡◌, ◌≢◌, ◌⊎◌, ℕ, [], ⊤};
 ghost use Rattle.lr_spec.specs.Rose.{Rose};
 ghost use Rattle.lr_spec.specs.Told.{Told};
 ghost use Rattle.lr_io.specs.Streams.{Appends, AppendsFront};
 ghost use Rattle.lr_script.specs.Grammar.{FirstOutside};
 ghost use Rattle.lr_script.specs.Within.{IsWithin};
-ghost use Rattle.lr_depot.specs.Depot.{Seen, IsEnded};
+ghost use Rattle.lr_depot.specs.Depot.{Seen, IsStart, IsEnded};
 ghost use Rattle.lr_roots.specs.Catalog.{Seen as Catalog};
 ghost use Rattle.lr_prepare.specs.Prepared.{IsPrepared};
 ghost use Rattle.lr_report.specs.Report.{report_text};
@@ -21,15 +21,17 @@ ghost use Rattle.lr_desk.specs.declared.outcome.Outcome.TheVariants as outcome;
 
 use crate::ends::PlayEnd;
 use crate::input::{InputError, read_script};
+use crate::laws::plays_have_the_headline;
 use crate::opening::opening_of;
 use crate::outcome::{Outcome, RunRecord};
 use lr_actors::Parts;
 use lr_depot::{Depot, StartError};
 use lr_desk::{Outcome as End, Refusal, outcome_of_cause, outcome_of_refusal, written};
+use lr_images::answers_are_told;
 use lr_io::{Sink, Source};
 use lr_origin::Origin;
 use lr_play::{Performed, Unperformed, perform};
-use lr_prepare::{Prepared, SetupError, Unprepared, prepare};
+use lr_prepare::{Prepared, SetupError, Unprepared, prepare, scripts_fit};
 use lr_report::{Opening, Run, report};
 use lr_script::Script;
 use std::alloc::Global;
@@ -153,6 +155,7 @@ fn reported<O: Origin, W: Sink>(alloc: Global, sink: &mut W, run: Run, origin: O
 // Plays the actors of a script whose setup lines were done.
 fn act<O: Origin, W: Sink>(alloc: Global, sink: &mut W, script: Script, prepared: Prepared<O>) -> Outcome<O>
     requires within { IsWithin script }
+    requires started { IsStart prepared.parts.depot.start }
     requires prepared { (first : Seen O) × IsPrepared script first prepared.parts prepared.context }
     ensures begun { (first : Seen O) → IsPrepared script first prepared.parts prepared.context → EndsFrom O.objects O.faults first script (record { written_before = W.written sink.old; written_after = W.written sink.new; faults_before = W.faults sink.old; faults_after = W.faults sink.new }) result.origin result.run result.status result.line }
 {
@@ -172,9 +175,11 @@ fn act<O: Origin, W: Sink>(alloc: Global, sink: &mut W, script: Script, prepared
 // Does the setup lines of a script and plays its actors.
 fn begin<O: Origin, W: Sink>(alloc: Global, sink: &mut W, script: Script, depot: Depot<O>) -> Outcome<O>
     requires within { IsWithin script }
+    requires started { IsStart depot.start }
     requires fresh { depot.log ≡ [] }
     ensures begun { EndsFrom O.objects O.faults depot script (record { written_before = W.written sink.old; written_after = W.written sink.new; faults_before = W.faults sink.old; faults_after = W.faults sink.new }) result.origin result.run result.status result.line }
 {
+    scripts_fit();
     match prepare(alloc, &script, depot) {
         Ok(prepared) => act(alloc, sink, script, prepared),
         Err(Unprepared { error, depot }) => stopped(alloc, error, depot),
@@ -192,8 +197,11 @@ pub fn play<O: Origin, I: Source, W: Sink>(alloc: Global, source: &mut I, sink: 
     ensures served { IfRun result.run (λ run. (p : HasPlayed O.objects O.faults origin result.origin run) × Headline O.objects O.faults origin result.origin run p) }
     ensures reported { IfRun result.run (λ run. result.status ≡ 0 → Appends (W.written sink.old) (report_text run) (W.written sink.new)) }
     ensures front { IfRun result.run (λ run. AppendsFront (W.written sink.old) (report_text run) (W.written sink.new)) }
-    ensures unwritten { MatchRun result.run (W.written sink.new ≡ W.written sink.old) (λ _. ⊤) }
+    ensures unstarted { MatchRun result.run ((result.status ≢ 0) × (result.status ≢ 5) × (W.written sink.new ≡ W.written sink.old)) (λ _. ⊤) }
+    ensures stopped { IfCommand result.run (λ _. (result.status ≢ 0) × (result.status ≢ 5) × (W.written sink.new ≡ W.written sink.old)) }
 {
+    plays_have_the_headline::<O>();
+    answers_are_told();
     let script = match read_script(alloc, source) {
         Ok(script) => script,
         Err(error) => return ends(of_input(error), RunRecord::Nothing, origin),
