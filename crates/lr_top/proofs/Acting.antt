@@ -113,7 +113,7 @@ module _ {O : Type 0} (objects : O → Option Objects) (faults : O → ℕ) (fir
   stopped_from last error record_of.Nothing status line same is gave says ended none kept = absurd none
   stopped_from last error (record_of.Command left) status line same is gave says ended none kept =
       let here : IsLeft first.start script.setup left.log error = subst (λ (l : List LogEntry). IsLeft first.start script.setup l error) (sym ended.1.log) is in
-      (end_of error, gave, says, record { last = last; catalog = ended.0; same = same; ended = ended.1; error = error; stopped = here; why = left_why first.start script.setup left.log error here; tells = refl }, kept)
+      (end_of error, gave, says, (record { last = last; catalog = ended.0; same = same; ended = ended.1; error = error; stopped = here; why = left_why first.start script.setup left.log error here; tells = refl }, kept))
   stopped_from last error (record_of.Run run) status line same is gave says ended none kept = absurd none
 
   pub ran_from : (r : RunRecord) (run : Run) (status : ℕ) (line : List ℕ) → r ≡ record_of.Run run → PlayedFrom objects faults first after run → run.script ≡ script

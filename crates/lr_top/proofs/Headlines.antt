@@ -1,5 +1,5 @@
 -- what a play did
-use Rattle.std.proofs.Common.{◌≡◌, ◌++◌, ℕ, List, Option, Some, refl, sym, ap, subst, ◌∙◌}
+use Rattle.std.proofs.Common.{◌≡◌, ◌++◌, ℕ, List, [], Option, Some, refl, sym, ap, subst, ◌∙◌}
 use Rattle.lr_spec.specs.Told.{Told}
 use Rattle.lr_origin.specs.Objects.{Objects}
 use Rattle.lr_roots.specs.Roots.{IsHomed}

@@ -1,10 +1,11 @@
 -- what device lines opened
-use Rattle.std.proofs.Common.{◌≡◌, ◌<◌, ◌+◌, ℕ, zero, suc, List, [], ◌∷◌, ◌++◌, length, map, take, get_or, Option, Some, None, slice_get, option_map, refl, sym, ap, subst, ◌∙◌, inl, inr, add-one, arith, length-append}
+use Rattle.std.proofs.Common.{◌≡◌, ◌<◌, ◌+◌, ℕ, zero, suc, List, [], ◌∷◌, ◌++◌, length, map, take, get_or, Option, Some, None, slice_get, option_map, refl, sym, ap, subst, ◌∙◌, inl, inr, add-one, append-nil, arith, length-append}
 use Rattle.std.specs.Prelude.{◌⊎◌}
 use Rattle.std.specs.Arc.{arc_value}
 use Rattle.std.specs.List.{flat_map}
 use Rattle.std.proofs.Math.Seq.{take-suc}
 use Rattle.std.proofs.lemmas.List.{length-map, map-append}
+use Rattle.std.proofs.lemmas.List.Concat.{flat_map-append}
 use Rattle.std.proofs.lemmas.Option.{slice_get-map}
 use Rattle.lr_device.specs.Held as device
 use Rattle.lr_walk.specs.Calls.{DevicePlace}
@@ -12,14 +13,13 @@ use Rattle.lr_depot.specs.Depot.{Seen}
 use Rattle.lr_history.specs.Run.{DeviceLine}
 use Rattle.lr_script.specs.declared.script.Setup.{Setup}
 use Rattle.lr_script.specs.Seen.{SetupSeen, Host, Root, Image, Device, ScriptSeen, setup_seen}
-use Rattle.lr_setup.specs.Setup.{SetupLine, devices_of}
+use Rattle.lr_setup.specs.Setup.{SetupLine, rotates, creates, opens, devices_of}
 use Rattle.lr_actors.specs.declared.place.Parts.{Parts}
 use Rattle.lr_actors.specs.declared.place.Context.{Context}
 use Rattle.lr_actors.specs.Places.{seen_place}
 use Rattle.lr_prepare.specs.Lines.{seen_lines, unnumbered, IsDoneAs, AreDoneAs}
 use Rattle.lr_prepare.specs.New.{new_device, place_at}
 use Rattle.lr_prepare.specs.Prepared.{IsPrepared}
-use Rattle.lr_prepare.proofs.Joined.{devices-append}
 use Rattle.lr_report.specs.declared.run.OpenedDevice.{OpenedDevice}
 use Rattle.lr_top.specs.Opening.{image_opened, images_opened, IsOpenedAs, AreOpened}
 use Rattle.lr_top.specs.Played.{IsOpened, AreOpened as HaveOpened}
@@ -29,15 +29,18 @@ use Rattle.lr_top.specs.Played.{IsOpened, AreOpened as HaveOpened}
 abbrev opened_by : ℕ × SetupSeen → List (List ℕ)
 opened_by line = image_opened line.1
 
-flat_map-append : {X A : Type 0} (f : X → List A) (xs ys : List X) → flat_map f (xs ++ ys) ≡ flat_map f xs ++ flat_map f ys
-flat_map-append f xs ys = ?
+abbrev seen_line : ℕ × Setup → ℕ × SetupSeen
+seen_line line = (line.0, setup_seen line.1)
 
-pub images_more : (lines : List (ℕ × Setup)) (i : ℕ) (line : ℕ × Setup) → i < length lines → line ≡ get_or lines i line
+pub images_more : (lines : List (ℕ × Setup)) (i : ℕ) (line : ℕ × Setup) → i < length lines → get_or lines i line ≡ line
     → images_opened (seen_lines (take (i + 1) lines)) ≡ images_opened (seen_lines (take i lines)) ++ image_opened (setup_seen line.1)
 unfolding images_opened
 images_more lines i line less at =
-    let front : take (i + 1) lines ≡ take i lines ++ line ∷ [] = ap (λ (n : ℕ). take n lines) (add-one i) ∙ (take-suc lines i line less ∙ ap (λ (y : ℕ × Setup). take i lines ++ y ∷ []) (sym at)) in
-    ?
+    let front : take (i + 1) lines ≡ take i lines ++ line ∷ [] = ap (λ (n : ℕ). take n lines) (add-one i) ∙ (take-suc lines i line less ∙ ap (λ (y : ℕ × Setup). take i lines ++ y ∷ []) at) in
+    ap (λ (l : List (ℕ × Setup)). images_opened (seen_lines l)) front
+    ∙ (ap images_opened (map-append seen_line (take i lines) (line ∷ []))
+    ∙ (flat_map-append opened_by (seen_lines (take i lines)) (seen_line line ∷ [])
+    ∙ ap (λ (l : List (List ℕ)). images_opened (seen_lines (take i lines)) ++ l) (append-nil (image_opened (setup_seen line.1)))))
 
 -- ---- one device more
 
@@ -85,6 +88,12 @@ pub all_opened : (at : ℕ) (images : List (List ℕ)) (devices : List device.Se
 all_opened at images devices places opened all h = record { many = h.many ∙ all; each = h.each }
 
 -- ---- of a script whose setup was done
+
+devices-append : (xs ys : List SetupLine) → devices_of (xs ++ ys) ≡ devices_of xs ++ devices_of ys
+devices-append [] ys = refl
+devices-append (rotates salt ∷ xs) ys = devices-append xs ys
+devices-append (creates line ∷ xs) ys = devices-append xs ys
+devices-append (opens line ∷ xs) ys = ap (λ (l : List DeviceLine). line ∷ l) (devices-append xs ys)
 
 one_image : (line : SetupSeen) (lines : List SetupLine) → IsDoneAs line lines → map (λ (d : DeviceLine). d.image) (devices_of lines) ≡ image_opened line
 one_image (Host name cap) lines h = ap (λ (l : List SetupLine). map (λ (d : DeviceLine). d.image) (devices_of l)) h

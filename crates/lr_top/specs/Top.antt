@@ -55,7 +55,7 @@ MatchRun (record_of.Run run) none some = some run
 
 -- What holds of the run, where there is one.
 abbrev pub IfRun : RunRecord → (Run → Type 0) → Type 0
-IfRun record P = MatchRun record ⊤ P
+IfRun r P = MatchRun r ⊤ P
 
 -- What holds of what is left of the depot, where no run was begun.
 abbrev pub IfCommand : RunRecord → (Left → Type 0) → Type 0

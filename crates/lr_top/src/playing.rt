@@ -17,6 +17,7 @@ ghost use Rattle.lr_desk.specs.Ends.{IsWritten};
 ghost use Rattle.lr_top.specs.Played.{HasPlayed, Headline};
 ghost use Rattle.lr_top.specs.declared.outcome.RunRecord.TheVariants as record_of;
 ghost use Rattle.lr_top.specs.declared.ends.PlayEnd.TheVariants as ends;
+ghost use Rattle.lr_desk.specs.declared.outcome.Outcome.{Outcome as AnyEnd};
 ghost use Rattle.lr_desk.specs.declared.outcome.Outcome.TheVariants as outcome;
 
 use crate::ends::PlayEnd;
@@ -140,15 +141,23 @@ fn close<O: Origin>(alloc: Global, script: Script, opening: Opening, performed: 
 }
 
 // Writes the report of a run.
+fn write_report<W: Sink>(alloc: Global, sink: &mut W, run: &Run) -> End
+    ensures written { IsWritten (W.written sink.old) (report_text run.now) (W.written sink.new) result }
+    ensures cause { result ≡ outcome.WriteFault → Rose (W.faults sink.old) (W.faults sink.new) }
+{
+    match report(alloc, run) {
+        Ok(text) => written(sink, &text),
+        Err(_) => End::Memory,
+    }
+}
+
+// The outcome of a run, whose report is written.
 fn reported<O: Origin, W: Sink>(alloc: Global, sink: &mut W, run: Run, origin: O) -> Outcome<O>
     ensures run { result.run ≡ record_of.Run run }
     ensures origin { result.origin ≡ origin }
-    ensures ended { (end : End) × (result.status ≡ status_of (ends.By end)) × (result.line ≡ line_of (ends.By end)) × IsWritten (W.written sink.old) (report_text run) (W.written sink.new) end × (end ≡ outcome.WriteFault → Rose (W.faults sink.old) (W.faults sink.new)) }
+    ensures ended { (end : AnyEnd) × (result.status ≡ status_of (ends.By end)) × (result.line ≡ line_of (ends.By end)) × IsWritten (W.written sink.old) (report_text run) (W.written sink.new) end × (end ≡ outcome.WriteFault → Rose (W.faults sink.old) (W.faults sink.new)) }
 {
-    let end = match report(alloc, &run) {
-        Ok(text) => written(sink, &text),
-        Err(_) => End::Memory,
-    };
+    let end = write_report(alloc, sink, &run);
     ends(PlayEnd::By(end), RunRecord::Run(run), origin)
 }
 
