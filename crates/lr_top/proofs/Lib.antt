@@ -1,4 +1,5 @@
 mod Acting
+mod Desking
 mod Headlines
 mod Meeting
 mod OneWord

@@ -32,10 +32,10 @@ returns-in_default g c = record {
 pub returns-in-Err : goal.returns-in-Err
 returns-in-Err g c = record {
   begun = λ first p.
-      let same : c.in-Err.parts ≡ c.args.prepared.parts = cc (c.in-Err.ensures.left, c.in-Err.parts-is) in
+      let same : c.in-Err.field-0.parts ≡ c.args.prepared.parts = c.in-Err.ensures.left in
       stopped_from g.O.Origin.objects g.O.Origin.faults first c.args.script
       (record { written_before = g.W.Sink.written c.args.sink.now; written_after = g.W.Sink.written c.args.sink.now; faults_before = g.W.Sink.faults c.args.sink.now; faults_after = g.W.Sink.faults c.args.sink.now })
-      c.stopped-in-Err.result.origin c.in-Err.parts.depot OutOfMemory c.stopped-in-Err.result.run c.stopped-in-Err.result.status c.stopped-in-Err.result.line
+      c.stopped-in-Err.result.origin c.in-Err.field-0.parts.depot OutOfMemory c.stopped-in-Err.result.run c.stopped-in-Err.result.status c.stopped-in-Err.result.line
       (ap (λ q. q.depot.start) same ∙ p.start)
       (subst (λ q. IsLeft first.start c.args.script.setup q.depot.log OutOfMemory) (sym same) (all_done c.args.script first c.args.prepared.parts c.args.prepared.context p))
       c.stopped-in-Err.ensures.status c.stopped-in-Err.ensures.line c.stopped-in-Err.ensures.ended c.stopped-in-Err.ensures.run refl;
