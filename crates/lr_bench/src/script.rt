@@ -5,8 +5,8 @@ use crate::error::BenchError;
 use crate::task::{Work, Worked};
 use lr_io::{MemSink, MemSource};
 use lr_origin::MemOrigin;
-use lr_single::Script;
-use lr_singlereport::{Run, report};
+use lr_report::{Run, report};
+use lr_script::Script;
 use lr_text::{put_number, put_run};
 use lr_top::{Outcome, RunRecord, top};
 use std::alloc::Global;
@@ -100,9 +100,13 @@ impl Work for Parsing {
             Ok(script) => script,
             Err(_) => return Err(BenchError::Refused),
         };
+        let jobs = match script.actors.first() {
+            Some(actor) => actor.1.len(),
+            None => 0,
+        };
         Ok(Worked {
             bytes: self.text.len(),
-            made: script.jobs.len() as u64,
+            made: jobs as u64,
         })
     }
 }

@@ -316,7 +316,8 @@ fault_told : (t : DepotTold) → outcome_of (seen_told t) ≡ OriginFault → te
 fault_told (told.Fault k) e = refl
 fault_told t e = absurd (cc)
 
-rose_by : (before : ℕ) (log : List LogEntry) (now : ℕ) → Covers before log now → Tells log OriginFault → Rose before now
+-- An entry that tells of a fault of the store raised its count.
+pub rose_by : (before : ℕ) (log : List LogEntry) (now : ℕ) → Covers before log now → Tells log OriginFault → Rose before now
 rose_by before log now (inr last) t = inr last
 rose_by before log now (inl more) t = let one = fault_in log t.0 t.1 (fault_told t.0.reply t.2) in inl (omega (arith, more, one))
 

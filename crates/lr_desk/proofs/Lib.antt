@@ -1,4 +1,4 @@
-mod Answering
+pub mod Answering
 mod Carrying
 mod Causing
 mod Commanding

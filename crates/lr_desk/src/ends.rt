@@ -120,8 +120,8 @@ pub(crate) fn of_migration(alloc: Global, end: MigrateEnd) -> Result<Vec<u8>, Ou
     }
 }
 
-// How a reply ends a command that it didn't do.
-fn of_refusal(alloc: Global, reply: &DepotReply) -> Outcome
+/// How a reply ends a command that it didn't do.
+pub fn outcome_of_refusal(alloc: Global, reply: &DepotReply) -> Outcome
     ensures { result ≡ failure (outcome_of (seen_reply reply.now)) }
 {
     match of_reply(alloc, reply) {
@@ -136,7 +136,7 @@ pub(crate) fn of_creation(alloc: Global, created: Created) -> Result<Vec<u8>, Ou
 {
     match created {
         Created::Root(root) => numbered(alloc, b"created ", u64::from(root)),
-        Created::Refused(reply) => Err(of_refusal(alloc, &reply)),
+        Created::Refused(reply) => Err(outcome_of_refusal(alloc, &reply)),
         Created::ReadFault => Err(Outcome::ReadFault),
         Created::TooLong => Err(Outcome::Refused(Refusal::TooLong)),
         Created::OutOfMemory => Err(Outcome::Memory),
@@ -148,7 +148,7 @@ pub(crate) fn of_error(alloc: Global, error: CatError) -> Outcome
     ensures { result ≡ outcome_read (error_end error) }
 {
     match error {
-        CatError::Refused(reply) => of_refusal(alloc, &reply),
+        CatError::Refused(reply) => outcome_of_refusal(alloc, &reply),
         CatError::Sealed => Outcome::Refused(Refusal::Sealed),
         CatError::OutOfMemory => Outcome::Memory,
     }

@@ -13,9 +13,10 @@ mod tests;
 mod words;
 
 pub use collecting::collect;
+pub use ends::outcome_of_refusal;
 pub use laws::{done_images, logs_tell_of_outcomes};
 pub use moving::migrate;
 pub use outcome::{Outcome, Refusal};
 pub use roots::view_text;
-pub use running::{Done, commands};
+pub use running::{Done, commands, outcome_of_cause, written};
 pub use words::{Command, command_of};

@@ -1,5 +1,5 @@
 //! How a command ends: its status, and its line for standard error.
-ghost use Rattle.std.specs.Prelude.{◌≡◌, ◌++◌, ◌≤◌, codes, decimal, length, take};
+ghost use Rattle.std.specs.Prelude.{◌≡◌, ◌+◌, ◌++◌, ◌≤◌, codes, decimal, length, take};
 ghost use Rattle.lr_desk.specs.Outcome.{status_of, line_of, words_of, shown, printed};
 
 use itoa::Buffer;
@@ -69,6 +69,9 @@ pub enum Outcome {
 // The most bytes of a key that a line shows.
 const SHOWN_MAX: usize = 128;
 
+// The most bytes of a line in front of what it shows.
+const HEAD_MAX: usize = 32;
+
 // A byte that prints, or a question mark.
 fn printed(byte: u8) -> u8
     ensures { result ≡ printed byte }
@@ -90,7 +93,7 @@ fn front_of(key: &[u8]) -> &[u8]
 
 // Adds a key as lines show it.
 fn push_shown(line: &mut Line, key: &[u8])
-    requires { length line.old ≤ SHOWN_MAX }
+    requires { length line.old ≤ HEAD_MAX }
     ensures { line.new ≡ line.old ++ shown key.now }
 {
     for byte in front_of(key) {
@@ -100,8 +103,9 @@ fn push_shown(line: &mut Line, key: &[u8])
 
 // A short text and a key behind it.
 fn with_key(head: &[u8], key: &[u8]) -> Line
-    requires { length head.now ≤ SHOWN_MAX }
-    ensures { result ≡ head.now ++ shown key.now }
+    requires { length head.now ≤ HEAD_MAX }
+    ensures line { result ≡ head.now ++ shown key.now }
+    ensures short { length result ≤ length head.now + SHOWN_MAX }
 {
     let mut line = Line::of(head);
     push_shown(&mut line, key);
@@ -110,8 +114,9 @@ fn with_key(head: &[u8], key: &[u8]) -> Line
 
 // A short text and a number behind it.
 fn with_number(head: &[u8], number: u64) -> Line
-    requires { length head.now ≤ SHOWN_MAX }
-    ensures { result ≡ head.now ++ decimal number }
+    requires { length head.now ≤ HEAD_MAX }
+    ensures line { result ≡ head.now ++ decimal number }
+    ensures short { length result ≤ length head.now + SHOWN_MAX }
 {
     let mut line = Line::of(head);
     let mut buffer = Buffer::new();
@@ -121,8 +126,9 @@ fn with_number(head: &[u8], number: u64) -> Line
 
 // A short text and an image's name behind it.
 fn with_image(head: &[u8], image: &ImageName) -> Line
-    requires { length head.now ≤ SHOWN_MAX }
-    ensures { result ≡ head.now ++ image.now }
+    requires { length head.now ≤ HEAD_MAX }
+    ensures line { result ≡ head.now ++ image.now }
+    ensures short { length result ≤ length head.now + SHOWN_MAX }
 {
     let mut line = Line::of(head);
     line.push(image.as_bytes());
@@ -130,9 +136,10 @@ fn with_image(head: &[u8], image: &ImageName) -> Line
 }
 
 impl Refusal {
-    // The line of a refusal: `refused ` and its words.
-    fn line(&self) -> Line
-        ensures { result ≡ codes "refused " ++ words_of self.now }
+    /// The line of a refusal: `refused ` and its words.
+    pub fn line(&self) -> Line
+        ensures words { result ≡ codes "refused " ++ words_of self.now }
+        ensures short { length result ≤ HEAD_MAX + SHOWN_MAX }
     {
         match self {
             Refusal::NoImage => Line::of(b"refused no image"),

@@ -158,8 +158,8 @@ fn made<O: Origin, I: Source>(
     }
 }
 
-// Writes a text.
-fn written<W: Sink>(sink: &mut W, text: &[u8]) -> Outcome
+/// Writes a text: all of it, or a front where the sink fails.
+pub fn written<W: Sink>(sink: &mut W, text: &[u8]) -> Outcome
     ensures written { IsWritten (W.written sink.old) text.now (W.written sink.new) result }
     ensures read { result ≢ outcome.ReadFault }
     ensures cause { result ≡ outcome.WriteFault → Rose (W.faults sink.old) (W.faults sink.new) }
@@ -213,8 +213,8 @@ fn unstarted<O: Origin>(alloc: Global, outcome: Outcome, origin: O) -> Done<O>
     }
 }
 
-// How a command ends whose depot didn't start.
-fn of_cause(cause: StartCause) -> Outcome
+/// How a command ends whose depot didn't start.
+pub fn outcome_of_cause(cause: StartCause) -> Outcome
     ensures { result ≡ cause_of cause }
 {
     match cause {
@@ -235,7 +235,7 @@ fn failed<O: Origin>(alloc: Global, error: StartError<O>) -> Done<O>
     ensures origin { result.origin ≡ error.origin }
 {
     let StartError { cause, origin } = error;
-    unstarted(alloc, of_cause(cause), origin)
+    unstarted(alloc, outcome_of_cause(cause), origin)
 }
 
 /// Does one command over a store. The words choose it; its text goes to the sink. `create` reads the source, to its end or

@@ -3,7 +3,7 @@ ghost use Rattle.std.specs.Prelude.{◌≡◌, ℕ, List, [], Some};
 ghost use Rattle.std.specs.List.{AllByRecursion};
 ghost use Rattle.std.specs.FinMap as map;
 ghost use Rattle.lr_script.specs.Seen.{ScriptSeen};
-ghost use Rattle.lr_script.specs.Grammar.{Spells};
+ghost use Rattle.lr_script.specs.Within.{IsWithin};
 ghost use Rattle.lr_depot.specs.Begun.{Start};
 ghost use Rattle.lr_depot.specs.Depot.{IsStart, first_state, state};
 ghost use Rattle.lr_depot.specs.Machine.{LogEntry};
@@ -16,9 +16,9 @@ ghost use Rattle.lr_prepare.specs.Told.{ErrorsAreTold, ToldErrorsCome, DoneSetup
 use lr_depot::leases_last;
 use lr_images::answers_are_told;
 
-/// Each script that the grammar spells can be set up.
+/// Each script within the limits can be set up.
 pub fn scripts_fit()
-    ensures { (bytes : List ℕ) (script : ScriptSeen) → Spells bytes script → IsFit script }
+    ensures { (script : ScriptSeen) → IsWithin script → IsFit script }
 {}
 
 /// After the setup each device's lease is out, on its image with its manifest.

@@ -1,7 +1,9 @@
+mod Acting
 mod Desking
+mod Headlines
+mod Meeting
 mod OneWord
-mod Padding
+mod Opened
 mod Reading
 mod Reported
-mod Sealing
-mod Serving
+mod Whys

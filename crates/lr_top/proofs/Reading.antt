@@ -4,10 +4,10 @@ use Rattle.std.specs.Prelude.{◌⊎◌}
 use Rattle.std.proofs.Common.{inl, inr}
 use Rattle.std.proofs.lemmas.Bool.{cases_lt}
 use Rattle.lr_io.specs.Streams.{Takes, TakesAll}
-use Rattle.lr_single.specs.Seen.{ScriptSeen}
-use Rattle.lr_single.specs.Grammar.{Spells, FirstOutside}
-use Rattle.lr_single.proofs.Unique.{not_both}
-use Rattle.lr_single.proofs.Longer.{spells_within, outside_longer}
+use Rattle.lr_script.specs.Seen.{ScriptSeen}
+use Rattle.lr_script.specs.Grammar.{Spells, FirstOutside}
+use Rattle.lr_script.proofs.Unique.{not_both}
+use Rattle.lr_script.proofs.Longer.{spells_within, outside_longer}
 use Rattle.lr_top.specs.Top.{IsReadAs, IsOutsideAt, HasNoLineOutside}
 
 -- Bytes that spell a script are all that was left.

@@ -1,5 +1,6 @@
-pub mod Raw
-pub mod Top
-pub mod Sealing
-pub mod Served
+pub mod Ends
+pub mod Opening
 pub mod Input
+pub mod Top
+pub mod Played
+pub mod Acts

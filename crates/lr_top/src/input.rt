@@ -1,15 +1,13 @@
 //! A script read from a source.
 ghost use Rattle.std.specs.Prelude.{◌≡◌, ◌<◌, ◌≤◌, ℕ, IfOk, IfErr, IsErrOf, Option, List};
 ghost use Rattle.lr_spec.specs.Rose.{Rose};
+ghost use Rattle.lr_script.specs.Within.{IsWithin};
 ghost use Rattle.lr_top.specs.Top.{IsReadAs, IsOutsideAt, HasNoLineOutside};
 ghost use Rattle.lr_top.specs.Input.{IfOutside};
 
 use lr_io::{ReadError, Source, read_up_to};
-use lr_single::{Script, ScriptError};
+use lr_script::{BYTES_MOST, Script, ScriptError};
 use std::alloc::Global;
-
-// Bytes of a script.
-const SCRIPT_MAX: usize = 4_194_304;
 
 /// Why no script was read.
 #[derive(Clone, Copy, Debug, PartialEq, Eq)]
@@ -26,13 +24,15 @@ pub fn read_script<I: Source>(alloc: Global, source: &mut I) -> Result<Script, I
     ensures script { IfOk result (λ script. IsReadAs (I.left source.old) script (I.left source.new)) }
     ensures outside { IfErr result (λ e. IfOutside e (λ n. IsOutsideAt (I.left source.old) n)) }
     ensures only { IfOk result (λ _. HasNoLineOutside (I.left source.old)) }
+    ensures within { IfOk result (λ script. IsWithin script) }
     ensures cause { IsErrOf result InputError.Failed → Rose (I.faults source.old) (I.faults source.new) }
 {
-    let text = match read_up_to(alloc, source, SCRIPT_MAX) {
+    let text = match read_up_to(alloc, source, BYTES_MOST as usize) {
         Ok(text) => text,
         Err(ReadError::Failed) => return Err(InputError::Failed),
         Err(ReadError::OutOfMemory) => return Err(InputError::OutOfMemory),
     };
+    lr_script::scripts_are_within();
     match Script::parse(alloc, &text) {
         Ok(script) => Ok(script),
         Err(ScriptError::Line(line)) => Err(InputError::Outside(line)),

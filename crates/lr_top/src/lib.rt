@@ -1,20 +1,21 @@
-//! The top call: one command of the product over a source and a sink, with the headline in its contract.
+//! The top call: one command of the product over a source, a sink and a store, with the headline in its contract.
 //!
-//! `image` makes the bytes that a device is opened on, `sealed` their chunks, `input` reads a script from a source,
-//! `serve` makes a script's device calls, `playing` puts these together, and `choose` has the top call, which gives other
-//! words than `play` to the commands over a store. `outcome` holds what the call gives back.
+//! `input` reads a script from a source, `opening` tells what its device lines opened, `playing` plays it, and `choose` has the top call,
+//! which gives other words to the commands over a store. `ends` says how a play ends, `outcome` holds what the call gives back, `laws` that
+//! the headline holds. In
+//! `specs/`, `Played` says what a play did, and has the headline; `Top` says what is answered, and why.
 #![tactic(auto)]
 
 mod choose;
-mod image;
+mod ends;
 mod input;
+mod laws;
+mod opening;
 mod outcome;
 mod playing;
-mod sealed;
-mod serve;
-#[cfg(test)]
-mod tests;
 
-pub use choose::{desk, play, top};
+pub use choose::{desk, top};
+pub use ends::PlayEnd;
+pub use laws::plays_have_the_headline;
 pub use outcome::{Outcome, RunRecord};
-pub use serve::written_pages;
+pub use playing::play;

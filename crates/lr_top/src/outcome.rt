@@ -2,16 +2,16 @@
 use lr_depot::DepotLog;
 use lr_io::Line;
 use lr_origin::Origin;
-use lr_singlereport::Run;
+use lr_report::Run;
 
 /// What a command left beside its output.
 #[derive(Drop)]
 pub enum RunRecord {
     /// Nothing was run.
     Nothing,
-    /// A single command was done over a depot, which has this log.
+    /// A depot was started and no actor was begun: a single command, or a play that stopped before. It has this log.
     Command(DepotLog),
-    /// This was run to its end.
+    /// The actors of a script were begun.
     Run(Run),
 }
 
@@ -24,6 +24,6 @@ pub struct Outcome<O: Origin> {
     /// The status in words; empty for 0.
     pub line: Line,
     pub run: RunRecord,
-    /// The store. `play` doesn't touch it.
+    /// The store.
     pub origin: O,
 }

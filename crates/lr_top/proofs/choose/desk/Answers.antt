@@ -33,8 +33,3 @@ returns-clause-recorded g c =
     let d = c.commands-done in
     if_nothing d.result.started c.recorded-run.result d.result.log _ c.recorded-run.ensures.started c.recorded-run.ensures.nothing
     (λ e. let u = d.ensures.unstarted e in (u.4, u.5, ap g.W.Sink.written u.2))
-
-pub returns-clause-unstarted : goal.returns-clause-unstarted
-returns-clause-unstarted g c =
-    let d = c.commands-done in
-    if_nothing d.result.started c.recorded-run.result d.result.log _ c.recorded-run.ensures.started c.recorded-run.ensures.nothing d.ensures.why

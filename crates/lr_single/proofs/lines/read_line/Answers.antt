@@ -1,4 +1,0 @@
-use Rattle.lr_single.proofs.lines.read_line.Goals as goal
-
-pub returns-in_default-clause-only : goal.returns-in_default-clause-only
-returns-in_default-clause-only c = λ _ after h. c.in_default.ensures.only h.offset h.len h.range

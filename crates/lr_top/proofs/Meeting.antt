@@ -1,0 +1,192 @@
+-- where a play's end comes, and where it must come
+use Rattle.std.proofs.Common.{◌≡◌, ◌≢◌, ◌≤◌, ◌+◌, ◌^◌, ℕ, List, [], ◌∷◌, Option, Some, None, refl, sym, ap, subst, ◌∙◌, inl, inr, arith}
+use Rattle.std.specs.Prelude.{◌⊎◌}
+use Rattle.lr_spec.specs.Rose.{Rose}
+use Rattle.lr_spec.specs.Told.{Told}
+use Rattle.lr_origin.specs.Objects.{Objects}
+use Rattle.lr_origin.specs.declared.key.KeyKind.{KeyKind}
+use Rattle.lr_opening.specs.declared.cause.StartCause.{StartCause}
+use Rattle.lr_opening.specs.declared.cause.StartCause.TheVariants as cause
+use Rattle.lr_opening.specs.Cause.{IsRead, IsCause}
+use Rattle.lr_opening.specs.Listing.{HasFewer, HasMany}
+use Rattle.lr_opening.specs.Store.{HasChunks, IsForeignKey, IsSoundStore}
+use Rattle.lr_opening.proofs.Bounded.{fewer_not_many}
+use Rattle.lr_opening.proofs.Views.{sound_store_is_not_foreign}
+use Rattle.lr_depot.specs.declared.call.DepotTold.{DepotTold}
+use Rattle.lr_depot.specs.declared.call.DepotTold.TheVariants as told
+use Rattle.lr_depot.specs.Machine.{LogEntry}
+use Rattle.lr_depot.specs.Store.{Covers}
+use Rattle.lr_walk.specs.Depot.{Reply, no_image, no_root, taken, doubt, full, roots_end, spoiled, seen_reply, seen_told}
+use Rattle.lr_images.specs.Answered.{TellsReply, IsUnspoiled}
+use Rattle.lr_script.specs.Seen.{ScriptSeen}
+use Rattle.lr_script.specs.Grammar.{Spells}
+use Rattle.lr_script.proofs.Unique.{not_both}
+use Rattle.lr_desk.specs.declared.outcome.Outcome.{Outcome}
+use Rattle.lr_desk.specs.declared.outcome.Outcome.TheVariants.{Done, Usage, ReadFault, WriteFault, OriginFault, Memory, Refused, Foreign, Spoiled, TooMany}
+use Rattle.lr_desk.specs.Causes.{cause_of}
+use Rattle.lr_desk.specs.Ends.{outcome_of, failure, IsWritten}
+use Rattle.lr_desk.proofs.Answering.{rose_by}
+use Rattle.lr_prepare.specs.declared.error.SetupError.{SetupError}
+use Rattle.lr_prepare.specs.declared.error.SetupError.TheVariants as setup
+use Rattle.lr_prepare.specs.Stopped.{Refuses}
+use Rattle.lr_top.specs.declared.input.InputError.{InputError}
+use Rattle.lr_top.specs.declared.input.InputError.TheVariants as input
+use Rattle.lr_top.specs.declared.ends.PlayEnd.{PlayEnd}
+use Rattle.lr_top.specs.declared.ends.PlayEnd.TheVariants.{By, OutsideAt, RefusedAt}
+use Rattle.lr_top.specs.Ends.{status_of}
+use Rattle.lr_top.specs.Input.{IfOutside}
+use Rattle.lr_top.specs.Top.{IsOutsideAt, Met, unread_end, at_line, end_of, Comes, TellsWhy, IsUnbegun, IsForeignEnd, IsManyEnd, IsComplete, Completes, IsExact}
+
+module _ (m : Met) where
+  -- ---- no script was read
+
+  pub unread_comes : (e : InputError) → IfOutside e (λ n. IsOutsideAt m.source n) → (e ≡ input.Failed → Rose m.source_before m.source_after) → Comes m (unread_end e)
+  unread_comes (input.Outside n) outside rose = outside
+  unread_comes input.Failed outside rose = rose refl
+  unread_comes input.OutOfMemory outside rose = tt
+
+  unread_foreign : (os : Objects) (e : InputError) → IsForeignEnd os (unread_end e)
+  unread_foreign os (input.Outside n) = tt
+  unread_foreign os input.Failed = tt
+  unread_foreign os input.OutOfMemory = tt
+
+  unread_many : (e : InputError) → IsManyEnd (unread_end e)
+  unread_many (input.Outside n) = tt
+  unread_many input.Failed = tt
+  unread_many input.OutOfMemory = tt
+
+  unread_complete : (e : InputError) → IfOutside e (λ n. IsOutsideAt m.source n) → (e ≡ input.Failed → Rose m.source_before m.source_after) → Completes m (unread_end e)
+  unread_complete (input.Outside n) outside rose still unread quiet xs t script spells os s sound few = absurd (not_both xs script n spells (outside xs t))
+  unread_complete input.Failed outside rose still unread quiet xs t script spells os s sound few = absurd (unread (rose refl))
+  unread_complete input.OutOfMemory outside rose still unread quiet xs t script spells os s sound few = tt
+
+  pub unread_exact : (e : InputError) → IfOutside e (λ n. IsOutsideAt m.source n) → (e ≡ input.Failed → Rose m.source_before m.source_after) → IsExact m (unread_end e)
+  unread_exact e outside rose = record {
+    foreign = λ os t key foreign few. unread_foreign os e;
+    many = λ os t many. unread_many e;
+    complete = unread_complete e outside rose;
+  }
+
+  pub unread_unbegun : (told : Option Objects) (e : InputError) → IsUnbegun told (unread_end e)
+  unread_unbegun told (input.Outside n) = tt
+  unread_unbegun told input.Failed = tt
+  unread_unbegun told input.OutOfMemory = tt
+
+  -- ---- the depot didn't start
+
+  pub cause_comes : (c : StartCause) → IsCause m.objects m.origin_before m.origin_after c → Comes m (By (cause_of c))
+  cause_comes (cause.Fault None) h = h
+  cause_comes (cause.Fault (Some k)) h = h.0
+  cause_comes (cause.Spoiled k) h = tt
+  cause_comes (cause.Foreign key) h = h
+  cause_comes cause.TooMany h = h
+  cause_comes cause.OutOfMemory h = tt
+
+  cause_foreign : (c : StartCause) → IsCause m.objects m.origin_before m.origin_after c → Told m.objects (λ os. (key : List ℕ) → IsForeignKey os key → HasFewer os (2 ^ 32) → IsForeignEnd os (By (cause_of c)))
+  cause_foreign (cause.Fault k) h os t key foreign few = tt
+  cause_foreign (cause.Spoiled k) h os t key foreign few = absurd (h.1 os t)
+  cause_foreign (cause.Foreign q) h os t key foreign few = (h os t).0
+  cause_foreign cause.TooMany h os t key foreign few = absurd (fewer_not_many os (2 ^ 32) few (h os t))
+  cause_foreign cause.OutOfMemory h os t key foreign few = tt
+
+  cause_many : (c : StartCause) → IsCause m.objects m.origin_before m.origin_after c → Told m.objects (λ os. HasMany os (2 ^ 32) → IsManyEnd (By (cause_of c)))
+  cause_many (cause.Fault k) h os t many = tt
+  cause_many (cause.Spoiled k) h os t many = absurd (h.1 os t)
+  cause_many (cause.Foreign q) h os t many = absurd (fewer_not_many os (2 ^ 32) (h os t).1 many)
+  cause_many cause.TooMany h os t many = tt
+  cause_many cause.OutOfMemory h os t many = tt
+
+  cause_rose : (k : Option KeyKind) → IsCause m.objects m.origin_before m.origin_after (cause.Fault k) → Rose m.origin_before m.origin_after
+  cause_rose None h = h
+  cause_rose (Some k) h = h.0
+
+  cause_complete : (c : StartCause) → IsCause m.objects m.origin_before m.origin_after c → Completes m (By (cause_of c))
+  cause_complete (cause.Fault k) h still unread quiet xs s script spells os t sound few = absurd (still (cause_rose k h))
+  cause_complete (cause.Spoiled k) h still unread quiet xs s script spells os t sound few = absurd (h.1 os t)
+  cause_complete (cause.Foreign q) h still unread quiet xs s script spells os t sound few = absurd (sound_store_is_not_foreign os sound.0.0 sound.0.1 sound.0.2 q.items (h os t).0)
+  cause_complete cause.TooMany h still unread quiet xs s script spells os t sound few = absurd (fewer_not_many os (2 ^ 32) few (h os t))
+  cause_complete cause.OutOfMemory h still unread quiet xs s script spells os t sound few = tt
+
+  pub cause_exact : (c : StartCause) → IsCause m.objects m.origin_before m.origin_after c → IsExact m (By (cause_of c))
+  cause_exact c h = record { foreign = cause_foreign c h; many = cause_many c h; complete = cause_complete c h }
+
+  pub cause_unbegun : (c : StartCause) → IsCause m.objects m.origin_before m.origin_after c → IsUnbegun m.objects (By (cause_of c))
+  cause_unbegun (cause.Fault k) h = tt
+  cause_unbegun (cause.Spoiled k) h = h
+  cause_unbegun (cause.Foreign key) h = tt
+  cause_unbegun cause.TooMany h = tt
+  cause_unbegun cause.OutOfMemory h = tt
+
+  -- ---- the setup stopped
+
+  refused_comes : (n : ℕ) (r : Reply) → Refuses r → Comes m (at_line n (failure (outcome_of r)))
+  refused_comes n no_image h = tt
+  refused_comes n no_root h = tt
+  refused_comes n taken h = tt
+  refused_comes n (doubt key) h = tt
+  refused_comes n full h = tt
+  refused_comes n roots_end h = tt
+  refused_comes n r h = absurd h
+
+  refused_complete : (n : ℕ) (r : Reply) → Refuses r → IsComplete (at_line n (failure (outcome_of r)))
+  refused_complete n no_image h = tt
+  refused_complete n no_root h = tt
+  refused_complete n taken h = tt
+  refused_complete n (doubt key) h = tt
+  refused_complete n full h = tt
+  refused_complete n roots_end h = tt
+  refused_complete n r h = absurd h
+
+  module _ (log : List LogEntry) (covers : Covers m.origin_before log m.origin_after) where
+    fault_rose : TellsWhy log setup.Fault → Rose m.origin_before m.origin_after
+    fault_rose h = rose_by m.origin_before log m.origin_after covers (h.1.0, h.1.1, ap outcome_of h.1.2)
+
+    pub stopped_comes : (e : SetupError) → TellsWhy log e → Comes m (end_of e)
+    stopped_comes (setup.Refused n reply) h = refused_comes n (seen_reply reply) h.0
+    stopped_comes (setup.Sealed n) h = tt
+    stopped_comes setup.Fault h = fault_rose h
+    stopped_comes (setup.Spoiled key) h = tt
+    stopped_comes setup.OutOfMemory h = tt
+
+    told_spoiled : (t : DepotTold) (key : KeyKind) → seen_told t ≡ spoiled key → t ≡ told.Spoiled key
+    told_spoiled (told.Spoiled k) key is = cc
+    told_spoiled t key is = absurd (cc)
+
+    pub stopped_complete : (e : SetupError) → TellsWhy log e → ¬ (Rose m.origin_before m.origin_after) → IsUnspoiled log → IsComplete (end_of e)
+    stopped_complete (setup.Refused n reply) h still clean = refused_complete n (seen_reply reply) h.0
+    stopped_complete (setup.Sealed n) h still clean = tt
+    stopped_complete setup.Fault h still clean = absurd (still (fault_rose h))
+    stopped_complete (setup.Spoiled key) h still clean = absurd (clean h.0 h.1 key (told_spoiled h.0.reply key h.2))
+    stopped_complete setup.OutOfMemory h still clean = tt
+
+-- ---- statuses of plays without a run
+
+refused_status : (n : ℕ) (r : Reply) → Refuses r → status_of (at_line n (failure (outcome_of r))) ≡ 8
+refused_status n no_image h = refl
+refused_status n no_root h = refl
+refused_status n taken h = refl
+refused_status n (doubt key) h = refl
+refused_status n full h = refl
+refused_status n roots_end h = refl
+refused_status n r h = absurd h
+
+other_status : (n k : ℕ) → n ≡ k → k ≢ 0 → k ≢ 5 → (n ≢ 0) × (n ≢ 5)
+other_status n k e a b = ((λ z. a (sym e ∙ z)), (λ z. b (sym e ∙ z)))
+
+pub stopped_status : (log : List LogEntry) (e : SetupError) → TellsWhy log e → (status_of (end_of e) ≢ 0) × (status_of (end_of e) ≢ 5)
+stopped_status log (setup.Refused n reply) h = other_status (status_of (at_line n (failure (outcome_of (seen_reply reply))))) 8 (refused_status n (seen_reply reply) h.0) (λ e. absurd (omega (arith, e))) (λ e. absurd (omega (arith, e)))
+stopped_status log (setup.Sealed n) h = ((λ e. absurd (omega (arith, e))), (λ e. absurd (omega (arith, e))))
+stopped_status log setup.Fault h = ((λ e. absurd (omega (arith, e))), (λ e. absurd (omega (arith, e))))
+stopped_status log (setup.Spoiled key) h = ((λ e. absurd (omega (arith, e))), (λ e. absurd (omega (arith, e))))
+stopped_status log setup.OutOfMemory h = ((λ e. absurd (omega (arith, e))), (λ e. absurd (omega (arith, e))))
+
+pub unread_status : (e : InputError) → (status_of (unread_end e) ≢ 0) × (status_of (unread_end e) ≢ 5)
+unread_status (input.Outside n) = ((λ e. absurd (omega (arith, e))), (λ e. absurd (omega (arith, e))))
+unread_status input.Failed = ((λ e. absurd (omega (arith, e))), (λ e. absurd (omega (arith, e))))
+unread_status input.OutOfMemory = ((λ e. absurd (omega (arith, e))), (λ e. absurd (omega (arith, e))))
+
+-- where no script was read the status is 3, 4 or 7
+pub unread_known : (e : InputError) → (status_of (unread_end e) ≡ 3) ⊎ ((status_of (unread_end e) ≡ 4) ⊎ (status_of (unread_end e) ≡ 7))
+unread_known (input.Outside n) = inl refl
+unread_known input.Failed = inr (inl refl)
+unread_known input.OutOfMemory = inr (inr refl)

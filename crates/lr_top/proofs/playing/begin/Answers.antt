@@ -1,0 +1,12 @@
+use Rattle.std.proofs.Common.{refl}
+use Rattle.lr_top.proofs.Acting.{stopped_from}
+use Rattle.lr_top.proofs.playing.begin.Goals as goal
+
+pub returns-in-Err : goal.returns-in-Err
+returns-in-Err g c = record {
+  begun =
+      stopped_from g.O.Origin.objects g.O.Origin.faults c.args.depot c.args.script
+      (record { written_before = g.W.Sink.written c.args.sink.now; written_after = g.W.Sink.written c.args.sink.now; faults_before = g.W.Sink.faults c.args.sink.now; faults_after = g.W.Sink.faults c.args.sink.now })
+      c.stopped.result.origin c.in-Err.field-0.depot c.in-Err.field-0.error c.stopped.result.run c.stopped.result.status c.stopped.result.line c.in-Err.ensures.left.0 c.in-Err.ensures.left.1 c.stopped.ensures.status c.stopped.ensures.line
+      c.stopped.ensures.ended c.stopped.ensures.run refl;
+}
