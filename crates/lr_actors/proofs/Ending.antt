@@ -138,6 +138,7 @@ crashed s old mid new is crash f e = rw e (record {
     stage = tt;
   };
   out = refl;
+  reaps = λ q. refl;
   made = f.made;
   steps = f.steps;
   left = minus_zero _ _ (by (record { trail = record { state = Crashed; results = mid.trail.results; steps = mid.trail.steps }; path = mid.path; tally = mid.tally; made = mid.made }) s.crash refl crash);
@@ -157,6 +158,7 @@ pub crash_prepares : (s : Setting) (old new : Book) (st : Stage) → IsBetween s
 crash_prepares s old new st b c = record {
   whole = c.whole;
   out = c.out;
+  reaps = c.reaps;
   made = c.made;
   steps = c.steps;
   left = omega (arith, c.left, ahead_le s new st (length old.trail.results.items) (length old.trail.results.items + 1) (omega arith));

@@ -157,6 +157,7 @@ idle_prepared s b is h crash w = record {
     stage = tt;
   };
   out = refl;
+  reaps = λ q. let u : b.trail.state ≡ Unfinished = h.has.state in absurd (cc);
   made = refl;
   steps = refl;
   left = omega arith;
@@ -191,6 +192,7 @@ started s b old new c is h crash begun room out hands may =
     record {
       whole = works_whole s b begun.0 new c is h.has crash begun.1 under has ([], out.stands [] begun.2.stands) (rw out.left room);
       out = refl;
+      reaps = λ q. let u : b.trail.state ≡ Unfinished = h.has.state in absurd (cc);
       made = refl;
       steps = refl;
       left = omega (arith, ahead_at s b st (length b.trail.results.items) begun.0 begun.1, out.left, begun.2.bound);
@@ -222,6 +224,7 @@ pub prepares_as : (s : Setting) (old mid new : Book) (st : Stage) → SameBook o
 prepares_as s old mid new st e p = record {
   whole = p.whole;
   out = p.out;
+  reaps = p.reaps;
   made = p.made ∙ e.made;
   steps = p.steps ∙ ap (λ (t : _). t.steps) e.trail;
   left = rw (← e.trail) p.left;
@@ -248,6 +251,7 @@ pub prepared_after : (s : Setting) (old mid new : Book) (st : Stage) → SkipsSo
 prepared_after s old mid new st a p = record {
   whole = p.whole;
   out = p.out;
+  reaps = p.reaps;
   made = p.made ∙ a.made;
   steps = p.steps ∙ a.steps;
   left = omega (arith, p.left, ahead_le s new st (length old.trail.results.items) (length mid.trail.results.items) a.results);
@@ -287,6 +291,7 @@ closed s old new is b crash each e = rw e (record {
     stage = tt;
   };
   out = refl;
+  reaps = λ q. absurd (cc);
   made = refl;
   steps = refl;
   left = omega arith;

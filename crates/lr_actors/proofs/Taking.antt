@@ -57,6 +57,7 @@ pub end_is : (s : Setting) (old mid new : Book) (answer : Answer) (st : Stage) �
 end_is s old mid new answer st end f p = record {
   whole = p.whole;
   out = p.out;
+  reaps = p.reaps;
   made = p.made ∙ f.made;
   steps = p.steps ∙ f.steps;
   left = rw (← results_more old mid answer f) p.left;
@@ -74,6 +75,7 @@ pub crash_goes : (s : Setting) (old new : Book) (r : Running) (st : Stage) (c : 
 crash_goes s old new r st c removed next k = record {
   whole = k.whole;
   out = k.out;
+  reaps = k.reaps;
   made = k.made;
   steps = k.steps;
   left = omega (arith, k.left);
@@ -84,6 +86,7 @@ pub memory_goes : (s : Setting) (old mid new : Book) (r : Running) (st : Stage) 
 memory_goes s old mid new r st c next e k = record {
   whole = k.whole;
   out = k.out;
+  reaps = k.reaps;
   made = k.made ∙ e.made;
   steps = k.steps ∙ ap (λ (t : _). t.steps) e.trail;
   left = let l = rw e.trail at k.left in omega (arith, l);
@@ -95,6 +98,7 @@ pub works_go : (s : Setting) (b : Book) (r : Running) (c : ActorCall) (removed :
 works_go s b r c removed is h crash next some room = record {
   whole = works_whole s b next.0 r c is h crash next.1 next.2.under next.2.held some room;
   out = refl;
+  reaps = λ q. let u : b.trail.state ≡ Unfinished = h.state in absurd (cc);
   made = refl;
   steps = refl;
   left = omega arith;
@@ -105,6 +109,7 @@ pub goes_as : (s : Setting) (old mid new : Book) (r : Running) (st : Stage) → 
 goes_as s old mid new r st e k = record {
   whole = k.whole;
   out = k.out;
+  reaps = k.reaps;
   made = k.made ∙ e.made;
   steps = k.steps ∙ ap (λ (t : _). t.steps) e.trail;
   left = rw (← e.trail) k.left;
@@ -135,6 +140,7 @@ pub out_goes : (s : Setting) (old new : Book) (r after : Running) (st : Stage) �
 out_goes s old new r after st out k = record {
   whole = k.whole;
   out = k.out;
+  reaps = k.reaps;
   made = k.made;
   steps = k.steps;
   left = rw (← out.left) k.left;
@@ -148,6 +154,7 @@ pub end_goes : (s : Setting) (old new : Book) (r : Running) (answer : Answer) (s
 end_goes s old new r answer st going ends k = record {
   whole = k.whole;
   out = k.out;
+  reaps = k.reaps;
   made = k.made;
   steps = k.steps;
   left = omega (arith, k.left);
@@ -328,6 +335,7 @@ pub taken : (s : Setting) (old mid new : Book) (r after : Running) (reply : Repl
 taken s old mid new r after reply st k g = record {
   whole = g.whole;
   out = g.out;
+  reaps = g.reaps;
   made = g.made ∙ k.made;
   steps = g.steps ∙ k.steps;
   nears = nears_on r after reply (ahead s new st (length old.trail.results.items + 1)) _ k.went.nears (rw (← k.results) g.left);

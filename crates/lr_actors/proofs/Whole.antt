@@ -1,5 +1,5 @@
 -- a whole actor: what its calls say
-use Rattle.std.proofs.Common.{◌≡◌, ◌⊎◌, inl, inr, ◌≤◌, ◌<◌, ℕ, zero, suc, ◌+◌, ◌-◌, List, [], ◌∷◌, ◌++◌, length, take, drop, Bool, true, false, cond, Option, Some, None, refl, sym, ap, subst, ◌∙◌, arith, append-nil}
+use Rattle.std.proofs.Common.{◌≡◌, ◌⊎◌, inl, inr, ◌≤◌, ◌<◌, ℕ, zero, suc, ◌+◌, ◌-◌, List, [], ◌∷◌, ◌++◌, length, take, drop, Bool, true, false, cond, Option, Some, None, refl, sym, ap, subst, ◌∙◌, arith, append-nil, lt-ltb, le-ltb}
 use Rattle.std.specs.Prelude.{vec_len, nat_lt, if◌then◌else◌}
 use Rattle.std.specs.Arc.{arc_value}
 use Rattle.std.specs.List.{AllZip}
@@ -90,6 +90,7 @@ took_job s b new w st reply h k = record {
   same = record { number = refl; context = refl; hosts = refl; jobs = refl; crash = refl };
   is = actor_of s new st k.whole;
   out = k.out;
+  reaps = k.reaps;
   steps = rw h.now.0 k.steps;
   made = sym k.whole.fits.is.made ∙ (k.made ∙ (ap (λ (n : ℕ). n + steps_of reply) h.fits.is.made ∙ ap (λ (n : ℕ). (steps_in b.trail.results.items + length b.path.items) + n) (sym (adds_is w.job reply))));
   stands = λ lists later gains stands. k.stands lists later gains.0 gains.1 gains.2 stands.0 stands.1;
@@ -223,6 +224,14 @@ reaps_whole s b made out false e w = record {
 pub reaped_whole : (s : Setting) (b : Book) (made : ℕ) (out : Bool) → IsWhole s b (Reaps made out) → IsWhole s b (after_reap (context_of s) (hosts_of s) made)
 reaped_whole s b made out w = reaps_whole s b made out (nat_lt made (length (context_of s).devices + hosts_of s)) refl w
 
+reaps_next : (a : Seen) (n : ℕ) (b : Bool) → nat_lt n (reap_count a.context a.hosts) ≡ b → nat_lt n (reap_count a.context a.hosts) ≡ true → actor.reaps n ≡ actor.reaps_from a n
+reaps_next a n true e h = rw e refl
+reaps_next a n false e h = absurd (cc)
+
+reaps_last : (a : Seen) (n : ℕ) (b : Bool) → nat_lt n (reap_count a.context a.hosts) ≡ b → nat_lt n (reap_count a.context a.hosts) ≡ false → actor.over ≡ actor.reaps_from a n
+reaps_last a n true e h = absurd (cc)
+reaps_last a n false e h = rw e refl
+
 -- after the last reap it is over
 took_by : (s : Setting) (b : Book) (made : ℕ) (out : Bool) (reply : Reply) (y : Bool) → nat_lt made (length (context_of s).devices + hosts_of s) ≡ y → IsWhole s b (Reaps made out) → IsWhole s b (if y then Reaps (made + 1) false else Over)
     → Took (seen_with s b (Reaps made out)) reply (seen_with s b (if y then Reaps (made + 1) false else Over))
@@ -230,6 +239,7 @@ took_by s b made out reply true e w new = record {
   same = record { number = refl; context = refl; hosts = refl; jobs = refl; crash = refl };
   is = actor_of s b (Reaps (made + 1) false) new;
   out = refl;
+  reaps = (w.now.0, reaps_next (seen_with s b (Reaps (made + 1) false)) (made + 1) (nat_lt (made + 1) (reap_count (context_of s) (hosts_of s))) refl (lt-ltb (made + 1) (reap_count (context_of s) (hosts_of s)) new.now.2));
   steps = rw w.now.0 refl;
   made = omega arith;
   stands = λ lists later gains stands.
@@ -241,6 +251,7 @@ took_by s b made out reply false e w new = record {
   same = record { number = refl; context = refl; hosts = refl; jobs = refl; crash = refl };
   is = actor_of s b Over new;
   out = refl;
+  reaps = (w.now.0, reaps_last (seen_with s b Over) (made + 1) (nat_lt (made + 1) (reap_count (context_of s) (hosts_of s))) refl (le-ltb (made + 1) (reap_count (context_of s) (hosts_of s)) (let ge : length (context_of s).devices + hosts_of s ≤ made = ltb-false made (length (context_of s).devices + hosts_of s) e in omega arith)));
   steps = rw w.now.0 refl;
   made = omega arith;
   stands = λ lists later gains stands.
@@ -267,6 +278,7 @@ passed s b new n st w e k =
       same = record { number = refl; context = refl; hosts = refl; jobs = refl; crash = refl };
       is = actor_of s new st k.whole;
       out = k.out;
+      reaps = k.reaps;
       steps = k.steps ∙ e;
       made = sym k.whole.fits.is.made ∙ (k.made ∙ w.fits.is.made);
       stands = λ lists stands. k.stands lists [] stands (no_steps lists b.path.items w.now.1) job;

@@ -347,6 +347,15 @@ Nears (by_cache (caches.busy holder)) old new = new ≤ old
 Nears (by_depot (depots.removed key)) old new = new ≤ old
 Nears reply old new = new + 1 ≤ old
 
+-- Its reaps are made one after another, until it has ended.
+abbrev pub reaps_from : Seen → ℕ → Now
+reaps_from a made = if nat_lt made (reap_count a.context a.hosts) then reaps made else over
+
+-- A crash begins with the first reap, and after each reap comes the next.
+abbrev pub ReapsOn : Now → Seen → Type 0
+ReapsOn (reaps made) new = (new.state ≡ Crashed) × (new.now ≡ reaps_from new (made + 1))
+ReapsOn now new = new.state ≡ Crashed → new.now ≡ reaps 0
+
 -- It took a reply, and prepared what comes next.
 pub record Took (old : Seen) (reply : Reply) (new : Seen) : Type 0 where
   pub same : IsSame old new
@@ -356,6 +365,7 @@ pub record Took (old : Seen) (reply : Reply) (new : Seen) : Type 0 where
   pub made : steps_made new ≡ steps_made old + adds_one old.now reply
   pub stands : (lists after : Lists) → Gains old reply lists after → StandsFor old lists → StandsFor new after
   pub nears : Nears reply (left old) (left new)
+  pub reaps : ReapsOn old.now new
 
 -- It made its idle step, and prepared what comes next.
 pub record Passed (old new : Seen) : Type 0 where
@@ -366,3 +376,4 @@ pub record Passed (old new : Seen) : Type 0 where
   pub made : steps_made new ≡ steps_made old
   pub stands : (lists : Lists) → StandsFor old lists → StandsFor new lists
   pub nears : left new + 1 ≤ left old
+  pub reaps : ReapsOn old.now new

@@ -18,7 +18,7 @@ use Rattle.lr_depot.specs.declared.call.DepotCall.TheVariants as depot
 use Rattle.lr_actors.specs.declared.action.ActorCall.TheVariants as call
 use Rattle.lr_object.specs.declared.id.ObjectId.TheVariants.{Device, Node, Depot}
 use Rattle.lr_actors.specs.declared.action.ActorCall.{ActorCall}
-use Rattle.lr_actors.specs.declared.trail.ActorState.TheVariants.{Unfinished}
+use Rattle.lr_actors.specs.declared.trail.ActorState.TheVariants.{Crashed, Unfinished}
 use Rattle.lr_actors.specs.declared.running.Running.{Running}
 use Rattle.lr_actors.specs.declared.book.Book.{Book}
 use Rattle.lr_actors.specs.declared.body.Setting.{Setting}
@@ -182,10 +182,15 @@ pub record SkipsSome (s : Setting) (old new : Book) : Type 0 where
   pub steps : new.trail.steps ≡ old.trail.steps
   pub stands : (lists : Lists) → StandsBook s lists old → StandsBook s lists new
 
+-- a crash begins with the first reap
+abbrev pub CrashesFirst : Book → Stage → Type 0
+CrashesFirst b st = b.trail.state ≡ Crashed → now_of st ≡ reaps 0
+
 -- What comes next is prepared. No step was made.
 pub record Prepares (s : Setting) (old new : Book) (st : Stage) : Type 0 where
   pub whole : IsWhole s new st
   pub out : out_of st ≡ false
+  pub reaps : CrashesFirst new st
   pub made : new.made ≡ old.made
   pub steps : new.trail.steps ≡ old.trail.steps
   pub left : left (seen_with s new st) ≤ ahead s new st (length old.trail.results.items)
@@ -223,6 +228,7 @@ pub record AddsUnbegun (s : Setting) (old new : Book) : Type 0 where
 pub record Crashes (s : Setting) (old new : Book) (st : Stage) : Type 0 where
   pub whole : IsWhole s new st
   pub out : out_of st ≡ false
+  pub reaps : CrashesFirst new st
   pub made : new.made ≡ old.made
   pub steps : new.trail.steps ≡ old.trail.steps
   pub left : left (seen_with s new st) ≤ ahead s new st (length old.trail.results.items + 1)
@@ -232,6 +238,7 @@ pub record Crashes (s : Setting) (old new : Book) (st : Stage) : Type 0 where
 pub record EndsJob (s : Setting) (old : Book) (answer : Answer) (new : Book) (st : Stage) : Type 0 where
   pub whole : IsWhole s new st
   pub out : out_of st ≡ false
+  pub reaps : CrashesFirst new st
   pub made : new.made ≡ old.made
   pub steps : new.trail.steps ≡ old.trail.steps
   pub left : left (seen_with s new st) ≤ ahead s new st (length old.trail.results.items + 1)
@@ -257,6 +264,7 @@ HasRoomUnless removed r b = removed ≡ false → HasRoom (steps_left r) b
 pub record GoesOn (s : Setting) (old : Book) (r : Running) (new : Book) (st : Stage) : Type 0 where
   pub whole : IsWhole s new st
   pub out : out_of st ≡ false
+  pub reaps : CrashesFirst new st
   pub made : new.made ≡ old.made
   pub steps : new.trail.steps ≡ old.trail.steps
   pub left : left (seen_with s new st) ≤ steps_left r + ahead s new st (length old.trail.results.items + 1)
@@ -297,6 +305,7 @@ pub record Steps (s : Setting) (old : Book) (r : Running) (reply : Reply) (new :
 pub record Takes (s : Setting) (old : Book) (r : Running) (reply : Reply) (new : Book) (st : Stage) : Type 0 where
   pub whole : IsWhole s new st
   pub out : out_of st ≡ false
+  pub reaps : CrashesFirst new st
   pub made : new.made ≡ old.made + steps_of reply
   pub steps : new.trail.steps ≡ next_count old.trail.steps
   pub nears : Nears reply (steps_left r + ahead s new st (length old.trail.results.items + 1)) (left (seen_with s new st))

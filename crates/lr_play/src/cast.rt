@@ -90,7 +90,7 @@ fn after_of(
 {
     let mut made = Vec::new(alloc);
     if let Some(jobs) = after {
-        made.push(actor_of(alloc, number, jobs, Some(0), context)?)?;
+        made.push(actor_of(alloc, number, jobs, None, context)?)?;
     }
     Ok(made)
 }

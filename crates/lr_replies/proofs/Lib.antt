@@ -13,3 +13,4 @@ mod Calling
 mod Admitted
 mod Gained
 mod Gains
+mod Holding

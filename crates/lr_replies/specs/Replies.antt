@@ -1,7 +1,8 @@
 -- What replies mean to an actor: it takes each one that an object gives it, whatever the others do.
-use Rattle.std.specs.Prelude.{◌≡◌, ◌≢◌, ◌≤◌, ◌*◌, ℕ, List, [], length, Some, slice_get, ⊤}
+use Rattle.std.specs.Prelude.{◌≡◌, ◌≢◌, ◌≤◌, ◌*◌, ℕ, List, [], length, Some, None, slice_get, ⊤}
 use Rattle.std.specs.FinMap as map
 use Rattle.lr_object.specs.declared.id.ObjectId.{ObjectId}
+use Rattle.lr_object.specs.declared.id.ObjectId.TheVariants.{Device, Cache}
 use Rattle.lr_object.specs.Grown.{Grown}
 use Rattle.lr_manifest.specs.Manifest.{ManifestFields}
 use Rattle.lr_device.specs.Answers.{Answers}
@@ -11,13 +12,18 @@ use Rattle.lr_depot.specs.Depot.{IsStart, first_state, state}
 use Rattle.lr_depot.specs.Store.{IsRun}
 use Rattle.lr_walk.specs.Calls.{DevicePlace}
 use Rattle.lr_walk.specs.Jobs.{Context}
+use Rattle.lr_walk.specs.Trails.{Lists}
+use Rattle.lr_manifest.specs.declared.name.Name.{Name}
+use Rattle.lr_cache.specs.declared.call.CacheCall.TheVariants.{Look}
+use Rattle.lr_history.specs.Ready.{claim_by, plan_by, out_after}
+use Rattle.lr_actors.specs.declared.trail.ActorState.TheVariants.{Ended}
 use Rattle.lr_actors.specs.declared.action.ActorCall.{ActorCall}
 use Rattle.lr_actors.specs.declared.action.ActorCall.TheVariants as call
 use Rattle.lr_actors.specs.declared.action.ActorReply.{ActorReply}
 use Rattle.lr_depot.specs.declared.call.DepotCall.TheVariants as depot
 use Rattle.lr_actors.specs.Asked.{seen_reply}
 use Rattle.lr_actors.specs.Jobs.{Job, calls, closes}
-use Rattle.lr_actors.specs.Actor.{Seen, IsActor, NextJob, StandsFor, Admits, Gains}
+use Rattle.lr_actors.specs.Actor.{Seen, over, IsActor, NextJob, StandsFor, Admits, Gains}
 use Rattle.lr_actors.specs.Actor as actor
 use Rattle.lr_replies.specs.Objects.{Objects, own_lists, Replies, Calls}
 
@@ -68,3 +74,12 @@ IsNoClose lease asked = ⊤
 -- A lease that is out stays out, but for its own Close.
 abbrev pub LeasesStayOut : Type 0
 LeasesStayOut = (old new : Objects) (number : ℕ) (place : DevicePlace) (asked : ActorCall) (reply : ActorReply) → Calls number asked reply old new → IsNoClose place.lease asked → IsOut old place → IsOut new place
+
+-- An actor that hands out a Look has no claim out, in whichever cache.
+abbrev pub LooksHoldNone : Type 0
+LooksHoldNone = (w : Objects) (a : Seen) (at : ℕ) (name : Name) → IsReady w a → actor.Calls a (call.Cache at (Look name)) → (host : ℕ) → out_after (claim_by host) None (own_lists w a.number (Cache host)) ≡ None
+
+-- An actor of whose jobs all have ended has neither a claim nor a plan out.
+pub record EndedHoldNone : Type 0 where
+  pub claim : (a : Seen) (lists : Lists) → IsActor a → a.state ≡ Ended → a.now ≡ over → StandsFor a lists → (host : ℕ) → out_after (claim_by host) None (lists (Cache host)) ≡ None
+  pub plan : (a : Seen) (lists : Lists) → IsActor a → a.state ≡ Ended → a.now ≡ over → StandsFor a lists → (device : ℕ) → out_after (plan_by device) None (lists (Device device)) ≡ None

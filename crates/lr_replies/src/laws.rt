@@ -1,6 +1,6 @@
 //! Laws, as contracts of functions that do nothing.
 ghost use Rattle.lr_replies.specs.Seen.{JobsAreSeen, TrailsAreSeen};
-ghost use Rattle.lr_replies.specs.Replies.{RepliesAreAdmitted, ListsGain, LogsStayMade, LeasesStayOut};
+ghost use Rattle.lr_replies.specs.Replies.{RepliesAreAdmitted, ListsGain, LogsStayMade, LeasesStayOut, LooksHoldNone, EndedHoldNone};
 
 /// Each walk of an actor's job is one of what a history sees of the job.
 pub fn jobs_are_seen()
@@ -35,3 +35,19 @@ pub fn logs_stay_made()
 pub fn leases_stay_out()
     ensures { LeasesStayOut }
 {}
+
+/// An actor that looks for a chunk holds no claim, in whichever cache.
+pub fn looks_hold_none()
+    ensures { LooksHoldNone }
+{
+    replies_are_admitted();
+    lr_history::calls_fit();
+}
+
+/// An actor of whose jobs all have ended holds neither a claim nor a plan.
+pub fn ended_hold_none()
+    ensures { EndedHoldNone }
+{
+    trails_are_seen();
+    lr_history::ended_actors_hold_nothing();
+}

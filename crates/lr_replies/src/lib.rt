@@ -7,6 +7,6 @@
 mod laws;
 
 pub use laws::{
-    jobs_are_seen, leases_stay_out, lists_gain, logs_stay_made, replies_are_admitted,
-    trails_are_seen,
+    ended_hold_none, jobs_are_seen, leases_stay_out, lists_gain, logs_stay_made, looks_hold_none,
+    replies_are_admitted, trails_are_seen,
 };

@@ -83,8 +83,8 @@ module _ {O : Type 0} (laws : Laws) (objects : O → Option Stored) (faults : O 
   free_called : (c : ActorCall) (reply : ActorReply) → a.now ≢ over → Called objects faults old i a c reply new → IsFree (seen_reply reply)
   free_called c reply going s =
       free_reply reply (λ holder e.
-        alone_busy old new i a got alone (busy laws objects faults context hosts old new i a c reply is got going s
-          (subst (BusyCall c) (sym e) (busy_only (objects_of old) a.number c holder (subst (Replies (objects_of old) a.number c) e s.called.replies)))))
+      alone_busy old new i a got alone (busy laws objects faults context hosts old new i a c reply is got going s
+      (subst (BusyCall c) (sym e) (busy_only (objects_of old) a.number c holder (subst (Replies (objects_of old) a.number c) e s.called.replies)))))
 
   free_by : (now : Now) → a.now ≡ now → StepsNow objects faults (λ reply. ⊤) now old i a new → StepsNow objects faults IsFree now old i a new
   free_by over e s = s

@@ -25,7 +25,7 @@ use Rattle.lr_actors.specs.Running.{steps_left}
 use Rattle.lr_actors.specs.Asked.{Asked, a_call, HandsCall, seen_reply}
 use Rattle.lr_actors.specs.Jobs.{Job, closes, bound_of}
 use Rattle.lr_actors.specs.Actor as actor
-use Rattle.lr_actors.specs.Actor.{Now, works, idles, reaps, over, handed, IsActor, IsSame, StandsFor, StandsNow, StandsReaped, reaps_of, Took, Passed, FitsNow, GoesOn, Gains, AddsNow, Nears, asks_now, reap_at, reap_of, reap_place, reap_count, reaps_from, reaps_ahead, bounds_of, left, now_left}
+use Rattle.lr_actors.specs.Actor.{Now, works, idles, reaps, over, handed, IsActor, IsSame, StandsFor, StandsNow, StandsReaped, reaps_of, Took, Passed, FitsNow, ReapsOn, Gains, AddsNow, Nears, asks_now, reap_at, reap_of, reap_place, reap_count, reaps_from, reaps_ahead, bounds_of, left, now_left}
 use Rattle.lr_replies.specs.Objects.{Objects, own_lists, Replies, Calls}
 use Rattle.lr_replies.specs.Replies.{AreMade, IsReady, HasLease}
 use Rattle.lr_world.specs.Laws.{Laws}
@@ -155,7 +155,7 @@ idled_place laws w a after place now passed =
     let stands : StandsFor after (own_lists w after.number) = subst (λ (n : ℕ). StandsFor after (own_lists w n)) (sym numbers) (passed.stands (own_lists w a.number) place.stands) in
     let going : a.now ≢ over = λ e. absurd (cc) in
     let grow : length a.account.results ≤ length after.account.results = results_stay a after place.is passed.is passed.same passed.reaps going (omega (arith, passed.nears)) in
-    let crash : after.state ≡ Crashed → after.now ≡ reaps 0 = subst (λ (n : Now). GoesOn n after) now passed.reaps in
+    let crash : after.state ≡ Crashed → after.now ≡ reaps 0 = subst (λ (n : Now). ReapsOn n after) now passed.reaps in
     record {
       is = passed.is;
       out = passed.out;
@@ -226,7 +226,7 @@ module _ {O : Type 0} (laws : Laws) (objects : O → Option Stored) (faults : O 
   stands_new =
       subst (λ (n : ℕ). StandsFor after (own_lists (objects_of new) n)) (sym same.number)
       (c.took.stands (own_lists (objects_of old) a.number) (own_lists (objects_of new) a.number) (gains.0, adds_handed a.now a (seen_reply reply) gains.0 gains.1, gains.2)
-        (stands_handed a.now a (own_lists (objects_of old) a.number) place.stands))
+      (stands_handed a.now a (own_lists (objects_of old) a.number) place.stands))
 
   pub near : Nears (seen_reply reply) (left a) (left after)
   near = subst (λ (x : ℕ). Nears (seen_reply reply) x (left after)) (left_handed a.now a) c.took.nears
@@ -267,7 +267,7 @@ module _ {O : Type 0} (laws : Laws) (objects : O → Option Stored) (faults : O 
       let count : reap_count after.context after.hosts ≡ reap_count a.context a.hosts = λ t. reap_count (same.context t) (same.hosts t) in
       inr (omega (arith, ltb-false (made + 1) (reap_count after.context after.hosts) e, count))
 
-  gone_by : (now : Now) → a.now ≡ now → GoesOn now after → AddsNow now a (seen_reply reply) gains.0 → HandsCall asked (asks_now now a) → (o : ObjectId) → LetsGo after.now after o → HasNoneOut (own_lists (objects_of new) after.number) o
+  gone_by : (now : Now) → a.now ≡ now → ReapsOn now after → AddsNow now a (seen_reply reply) gains.0 → HandsCall asked (asks_now now a) → (o : ObjectId) → LetsGo after.now after o → HasNoneOut (own_lists (objects_of new) after.number) o
   gone_by (works r) e g adds hands o l = crash_by o g l
   gone_by idles e g adds hands o l = crash_by o g l
   gone_by over e g adds hands o l = crash_by o g l
@@ -277,8 +277,8 @@ module _ {O : Type 0} (laws : Laws) (objects : O → Option Stored) (faults : O 
       subst (λ (h : ℕ). AreMade (objects_of new) a.context h) (sym shared.1) (subst (λ (x : Context). AreMade (objects_of new) x hosts) (sym shared.0) made_new) in
       subst (λ (n : ℕ). HasNoneOut (own_lists (objects_of new) n) o) (sym same.number)
       (reap_gone laws (objects_of old) (objects_of new) a.number a.context a.hosts made asked reply hands c.called.replies rdy.made is_new gains.0 adds gains.2
-        (λ x h. place.gone x (subst (λ (n : Now). LetsGo n a x) (sym e) h)) o
-        (reaped_by made o (nat_lt (made + 1) (reap_count after.context after.hosts)) refl (subst (λ (n : Now). LetsGo n after o) g.1 l)))
+      (λ x h. place.gone x (subst (λ (n : Now). LetsGo n a x) (sym e) h)) o
+      (reaped_by made o (nat_lt (made + 1) (reap_count after.context after.hosts)) refl (subst (λ (n : Now). LetsGo n after o) g.1 l)))
 
   place_new : IsInPlace (objects_of new) after
   place_new =

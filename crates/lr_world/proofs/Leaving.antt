@@ -71,9 +71,12 @@ have_log {N} {T} passes xs ys n b enters caller p l =
     by i s e (inr ne) = (s, l.4.others i ne ∙ e, refl, gained_none passes s.log)
     by i s e (inl same) =
         let there : Some l.0 ≡ Some s = sym l.2 ∙ ap (slice_get xs) (sym same) ∙ e in
-        let is : l.0 ≡ s = cc in
-        (record { capacity = l.0.capacity; log = l.1 }, ap (slice_get ys) same ∙ l.4.here, ap (λ (x : Sized N T). x.capacity) is,
-          subst (λ (x : Sized N T). Gained passes x.log l.1) is (gained_log passes b (enters l.0) caller l.0.log l.1 p l.3))
+        let is : l.0 ≡ s = cc in (
+          record { capacity = l.0.capacity; log = l.1 },
+          ap (slice_get ys) same ∙ l.4.here,
+          ap (λ (x : Sized N T). x.capacity) is,
+          subst (λ (x : Sized N T). Gained passes x.log l.1) is (gained_log passes b (enters l.0) caller l.0.log l.1 p l.3),
+        )
 
 grew_call : (cast : List Part) (n : ℕ) (c : ActorCall) (reply : ActorReply) (old new : Objects) → IsNumber cast n → Calls n c reply old new → Grew cast old new
 grew_call cast n (call.Device h asked) (by.Device r) old new p made =

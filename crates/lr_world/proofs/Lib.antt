@@ -1,4 +1,5 @@
 mod Places
+mod Held
 mod Taken
 mod Nearing
 mod Keys

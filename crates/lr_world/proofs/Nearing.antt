@@ -24,7 +24,7 @@ use Rattle.lr_actors.specs.Migrating as migrating
 use Rattle.lr_actors.specs.Creating as creating
 use Rattle.lr_actors.specs.Bounds.{collects_left, moves_left, moves_ahead, puts_left}
 use Rattle.lr_actors.specs.Jobs.{Job, calls, creates, migrates, collects, closes, evicts, drops_stripe, flips_stripe, forges, loses, bound_of}
-use Rattle.lr_actors.specs.Actor.{Seen, Now, works, idles, reaps, over, IsCall, IsActor, IsSame, FitsNow, FitsState, FitsCrash, GoesOn, bounds_of, reaps_ahead, jobs_ahead, now_left, left, reap_count}
+use Rattle.lr_actors.specs.Actor.{Seen, Now, works, idles, reaps, over, IsCall, IsActor, IsSame, FitsNow, FitsState, FitsCrash, ReapsOn, bounds_of, reaps_ahead, jobs_ahead, now_left, left, reap_count}
 
 -- ---- a call that is asked is a step to make
 
@@ -182,8 +182,15 @@ module _ (old new : Seen) (was : IsActor old) (is : IsActor new) (same : IsSame 
         → length old.account.results ≤ length new.account.results
     grows_by (inl h) less s = h
     grows_by (inr h) less (inl u) =
-        absurd (omega (arith, least_left new u is, most_left old unfinished was, ahead_same, jobs_same (suc (length new.account.results)),
-            bounds_less old.jobs (suc (length new.account.results)) (length old.account.results) (omega (arith, h)), less))
+        absurd (omega (
+          arith,
+          least_left new u is,
+          most_left old unfinished was,
+          ahead_same,
+          jobs_same (suc (length new.account.results)),
+          bounds_less old.jobs (suc (length new.account.results)) (length old.account.results) (omega (arith, h)),
+          less,
+        ))
     grows_by (inr h) less (inr n) =
         absurd (omega (arith, results_full new new.state n is.state, results_few old old.state was.state, ap length same.jobs, h))
 
@@ -195,18 +202,24 @@ module _ (old new : Seen) (was : IsActor old) (is : IsActor new) (same : IsSame 
         → length old.account.results < length old.jobs → (new.state ≡ Unfinished) ⊎ (new.state ≡ Unfinished → ⊥) → length old.account.results < length new.account.results
     ends_by (inl h) less some s = h
     ends_by (inr h) less some (inl u) =
-        absurd (omega (arith, least_left new u is, ahead_same, jobs_same (suc (length new.account.results)),
-            bounds_less old.jobs (suc (length new.account.results)) (suc (length old.account.results)) (omega (arith, h)), less))
+        absurd (omega (
+          arith,
+          least_left new u is,
+          ahead_same,
+          jobs_same (suc (length new.account.results)),
+          bounds_less old.jobs (suc (length new.account.results)) (suc (length old.account.results)) (omega (arith, h)),
+          less,
+        ))
     ends_by (inr h) less some (inr n) = omega (arith, results_full new new.state n is.state, ap length same.jobs, some)
 
     pub ends : left new + 1 ≤ 1 + bounds_of (drop (suc (length old.account.results)) old.jobs) + reaps_ahead old.crash old → length old.account.results < length old.jobs → length old.account.results < length new.account.results
     ends less some = ends_by (cases_lt (length old.account.results) (length new.account.results)) less some (is_unfinished new.state)
 
   -- the results of an actor never become fewer
-  pub results_stay : GoesOn old.now new → (old.now ≢ over) → left new ≤ left old → length old.account.results ≤ length new.account.results
+  pub results_stay : ReapsOn old.now new → (old.now ≢ over) → left new ≤ left old → length old.account.results ≤ length new.account.results
   results_stay goes going less = by old.now refl was.now goes going
     where
-      by : (now : Now) → old.now ≡ now → FitsNow now old → GoesOn now new → (now ≢ over) → length old.account.results ≤ length new.account.results
+      by : (now : Now) → old.now ≡ now → FitsNow now old → ReapsOn now new → (now ≢ over) → length old.account.results ≤ length new.account.results
       by (works r) e f g o = grows f.0 less
       by idles e f g o = grows f.0 less
       by (reaps made) e f g o =

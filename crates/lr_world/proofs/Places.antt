@@ -34,6 +34,10 @@ pub logs_at : {N T : Type 0} (xs : List (Sized N T)) (n : ℕ) (b : Bool) (enter
     → MatchBool b ((e : Entry N T) × (new.log ≡ was.log ++ e ∷ []) × (e.caller ≡ caller) × enters was e × shares e) (new.log ≡ was.log)
     → LogsAt xs n b enters caller (set xs n new)
 logs_at {N} {T} xs n b enters shares caller was new got h fixed logged =
-    let here : IsReplaced xs n (record { capacity = was.capacity; log = new.log }) (set xs n (record { capacity = was.capacity; log = new.log })) = replaced xs n (record { capacity = was.capacity; log = new.log }) h in
-    (was, new.log, got, logs_by b (enters was) shares caller was.log new.log logged,
-      subst (λ (k : ℕ). IsReplaced xs n (record { capacity = was.capacity; log = new.log }) (set xs n (record { capacity = k; log = new.log }))) (sym fixed) here)
+    let here : IsReplaced xs n (record { capacity = was.capacity; log = new.log }) (set xs n (record { capacity = was.capacity; log = new.log })) = replaced xs n (record { capacity = was.capacity; log = new.log }) h in (
+      was,
+      new.log,
+      got,
+      logs_by b (enters was) shares caller was.log new.log logged,
+      subst (λ (k : ℕ). IsReplaced xs n (record { capacity = was.capacity; log = new.log }) (set xs n (record { capacity = k; log = new.log }))) (sym fixed) here,
+    )

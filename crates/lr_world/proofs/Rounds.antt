@@ -80,14 +80,18 @@ module _ {O : Type 0} (objects : O → Option Stored) (faults : O → ℕ) (cont
 
   ran_by : (b : Bool) → goes_on t ≡ b → (steps : List ℕ) × Round objects faults start (take (i + 1) (numbers_of (cast_of start))) steps new
   ran_by true e =
-      let going : a.now ≢ over = going_on a.now (ap goes_on (sym turned.2) ∙ e) in
-      (so.steps ++ a.number ∷ [], subst (λ (l : List ℕ). Round objects faults start l (so.steps ++ a.number ∷ []) new) (numbers_more (cast_of start) i (part_of a) at_cast)
-        (goes so.ran a.number (i, a, got, refl, going) (i, a, got, refl, turned.3)))
+      let going : a.now ≢ over = going_on a.now (ap goes_on (sym turned.2) ∙ e) in (
+        so.steps ++ a.number ∷ [],
+        subst (λ (l : List ℕ). Round objects faults start l (so.steps ++ a.number ∷ []) new) (numbers_more (cast_of start) i (part_of a) at_cast)
+            (goes so.ran a.number (i, a, got, refl, going) (i, a, got, refl, turned.3)),
+      )
   ran_by false e =
       let now : a.now ≡ over = ended_over a.now (ap goes_on (sym turned.2) ∙ e) in
-      let kept : new ≡ old = goes_ended t old new i e goes_so in
-      (so.steps, subst (λ (w : Seen O). Round objects faults start (take (i + 1) (numbers_of (cast_of start))) so.steps w) (sym kept)
-        (subst (λ (l : List ℕ). Round objects faults start l so.steps old) (numbers_more (cast_of start) i (part_of a) at_cast) (rests so.ran a.number (ends_here now))))
+      let kept : new ≡ old = goes_ended t old new i e goes_so in (
+        so.steps,
+        subst (λ (w : Seen O). Round objects faults start (take (i + 1) (numbers_of (cast_of start))) so.steps w) (sym kept)
+            (subst (λ (l : List ℕ). Round objects faults start l so.steps old) (numbers_more (cast_of start) i (part_of a) at_cast) (rests so.ran a.number (ends_here now))),
+      )
 
   -- those up to here, one by one
   up_to : (P : actor.Seen → Type 0) → ((j : ℕ) (b : actor.Seen) → j < i → slice_get old.actors j ≡ Some b → P b) → ((b : actor.Seen) → slice_get new.actors i ≡ Some b → P b) → (j : ℕ) (b : actor.Seen) → j < i + 1 → slice_get new.actors j ≡ Some b → P b

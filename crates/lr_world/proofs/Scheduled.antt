@@ -11,7 +11,7 @@ use Rattle.lr_script.specs.Seen.{ScheduleSeen, Serial, Rounds, Pairs}
 use Rattle.lr_actors.specs.declared.trail.ActorState.{ActorState}
 use Rattle.lr_actors.specs.declared.trail.ActorState.TheVariants.{Unfinished, Ended, Crashed}
 use Rattle.lr_actors.specs.Actor as actor
-use Rattle.lr_actors.specs.Actor.{Now, works, idles, reaps, over, FitsNow, GoesOn, counted}
+use Rattle.lr_actors.specs.Actor.{Now, works, idles, reaps, over, FitsNow, ReapsOn, counted}
 use Rattle.lr_world.specs.Laws.{Laws}
 use Rattle.lr_world.specs.World.{Seen, objects_of, Part, part_of, cast_of, numbers_of, IsWorld, StepsNow, StepsBy, Steps, IsFree}
 use Rattle.lr_world.specs.Runs.{Runs, none, more, Works, InTurn, Round, InRounds, listed, IsScheduled, steps_for, AreCounted}
@@ -122,7 +122,7 @@ module _ {O : Type 0} (objects : O → Option Stored) (faults : O → ℕ) (allo
       (f.0, ap (λ (x : actor.Seen). x.steps) (sym same) ∙ s.2.took.steps ∙ ap (λ (st : ActorState). counted st a.steps) f.0)
   step_by (reaps made) n f s =
       let same : s.2.after ≡ b = the_after old.actors s.2.after s.2.actors in
-      let crashed : s.2.after.state ≡ Crashed = (subst (λ (k : Now). GoesOn k s.2.after) n s.2.took.reaps).0 in
+      let crashed : s.2.after.state ≡ Crashed = (subst (λ (k : Now). ReapsOn k s.2.after) n s.2.took.reaps).0 in
       let state : s.2.after.state ≡ b.state = ap (λ (x : actor.Seen). x.state) same in
       absurd (cc)
 

@@ -114,6 +114,10 @@ ended_turn objects faults old i a after h got out now same =
 pub idle_turn : {O : Type 0} (objects : O → Option Stored) (faults : O → ℕ) (old : Seen O) (i : ℕ) (a mid after : actor.Seen) → slice_get old.actors i ≡ Some a → a.out ≡ false → a.now ≡ idles → mid ≡ handed a → Passed mid after
     → Turned objects faults old i turn.Idle (record old { actors = set old.actors i after })
 idle_turn objects faults old i a mid after got out now same passed =
-    let back : mid ≡ a = same ∙ handed_none a out (ap is_out now) in
-    (a, got, ap turn_of (sym now), subst (λ (n : Now). StepsNow objects faults (λ reply. ⊤) n old i a (record old { actors = set old.actors i after })) (sym now)
-      (record { after = after; passed = subst (λ (x : actor.Seen). Passed x after) back passed; kept = refl }))
+    let back : mid ≡ a = same ∙ handed_none a out (ap is_out now) in (
+      a,
+      got,
+      ap turn_of (sym now),
+      subst (λ (n : Now). StepsNow objects faults (λ reply. ⊤) n old i a (record old { actors = set old.actors i after })) (sym now)
+          (record { after = after; passed = subst (λ (x : actor.Seen). Passed x after) back passed; kept = refl }),
+    )

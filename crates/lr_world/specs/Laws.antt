@@ -1,22 +1,14 @@
 -- What holds of replies, whatever the others do.
-use Rattle.std.specs.Prelude.{◌≡◌, ℕ, None}
+use Rattle.std.specs.Prelude.{◌≡◌}
 use Rattle.lr_object.specs.declared.id.ObjectId.{ObjectId}
-use Rattle.lr_manifest.specs.declared.name.Name.{Name}
-use Rattle.lr_cache.specs.declared.call.CacheCall.TheVariants.{Look}
 use Rattle.lr_claims.specs.Logs.{CacheLogsAreLegal}
 use Rattle.lr_walk.specs.Trails.{Lists}
 use Rattle.lr_history.specs.Ready.{FitIsPlanned, BusyWaitsForAnother}
-use Rattle.lr_actors.specs.declared.action.ActorCall.TheVariants as call
 use Rattle.lr_actors.specs.declared.trail.ActorState.TheVariants.{Ended}
 use Rattle.lr_actors.specs.Actor as actor
 use Rattle.lr_actors.specs.Actor.{IsActor, StandsFor, over}
-use Rattle.lr_replies.specs.Objects.{Objects}
-use Rattle.lr_replies.specs.Replies.{IsReady, RepliesAreAdmitted, ListsGain, LogsStayMade, LeasesStayOut}
-use Rattle.lr_world.specs.World.{claim_out, HasNoneOut}
-
--- An actor that hands out a Look has no claim out, in whichever cache.
-abbrev pub LooksHoldNone : Type 0
-LooksHoldNone = (w : Objects) (a : actor.Seen) (at : ℕ) (name : Name) → IsReady w a → actor.Calls a (call.Cache at (Look name)) → (host : ℕ) → claim_out w a.number host ≡ None
+use Rattle.lr_replies.specs.Replies.{RepliesAreAdmitted, ListsGain, LogsStayMade, LeasesStayOut, LooksHoldNone}
+use Rattle.lr_world.specs.World.{HasNoneOut}
 
 -- An actor of whose jobs all have ended has nothing out.
 abbrev pub EndedHoldsNone : Type 0

@@ -51,13 +51,7 @@ fn on_cache(
     cache.apply(alloc, caller, call)
 }
 
-fn on_node(
-    nodes: &mut Vec<Node>,
-    alloc: Global,
-    caller: u32,
-    at: u32,
-    call: NodeCall,
-) -> NodeReply
+fn on_node(nodes: &mut Vec<Node>, alloc: Global, caller: u32, at: u32, call: NodeCall) -> NodeReply
     requires there { at < length nodes.old.items }
     requires may { node.May call }
     ensures replies { AtNode nodes.old.items at call result }

@@ -24,7 +24,7 @@ pub enum Stepped {
 }
 
 // What an actor did in its turn.
-#[derive(Clone, Copy, Debug, PartialEq, Eq)]
+#[derive(Clone, Copy)]
 enum Turn {
     Event,
     Idle,

@@ -14,12 +14,12 @@ returns-in-Depot-clause-called g c =
 
 pub returns-in-Depot-clause-depot : goal.returns-in-Depot-clause-depot
 returns-in-Depot-clause-depot g c = rw c.in-Depot.is (record {
-      fixed = c.apply.ensures.fixed;
-      answers = c.apply.ensures.answers;
-      logged = c.apply.ensures.logged;
-      unlogged = c.apply.ensures.unlogged;
-      store = c.apply.ensures.store;
-      never_falls = c.apply.ensures.never_falls;
-      cause = c.apply.ensures.cause;
-      unasked = c.apply.ensures.unasked;
-    })
+  fixed = c.apply.ensures.fixed;
+  answers = c.apply.ensures.answers;
+  logged = c.apply.ensures.logged;
+  unlogged = c.apply.ensures.unlogged;
+  store = c.apply.ensures.store;
+  never_falls = c.apply.ensures.never_falls;
+  cause = c.apply.ensures.cause;
+  unasked = c.apply.ensures.unasked;
+})

@@ -14,7 +14,7 @@ loop-at-preserved g c =
       is = λ context hosts known. c.turn.ensures.is context hosts (c.loop-at.invariant.is context hosts known);
       so = subst (SoFar g.O.Origin.objects g.O.Origin.faults (seen c.args.self.now) (seen c.turn.new.self) (c.loop-at.at + 1)) (sym c.either-moved.ensures)
           (so_far_more g.O.Origin.objects g.O.Origin.faults c.requires.0 c.requires.1 (seen c.args.self.now) (seen c.loop-at.self) (seen c.turn.new.self) c.loop-at.at c.loop-at.moved c.turn.result
-            (c.loop-at.invariant.is c.requires.0 c.requires.1 c.requires.2) c.turn.ensures.turned c.turn.ensures.goes c.turn.ensures.cast c.turn.ensures.others c.loop-at.invariant.so);
+          (c.loop-at.invariant.is c.requires.0 c.requires.1 c.requires.2) c.turn.ensures.turned c.turn.ensures.goes c.turn.ensures.cast c.turn.ensures.others c.loop-at.invariant.so);
     }
 
 pub returns-clause-falls : goal.returns-clause-falls

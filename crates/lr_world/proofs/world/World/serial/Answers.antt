@@ -18,8 +18,10 @@ loop-at-preserved g c =
       is = λ context hosts known. c.work_out.ensures.is context hosts (c.loop-at.invariant.is context hosts known);
       cast = w.cast ∙ c.loop-at.invariant.cast;
       free = still_free g.O.Origin.objects g.O.Origin.faults c.requires.world.0 c.requires.world.1 (seen c.args.self.now) (seen c.loop-at.self) (seen c.work_out.new.self) c.loop-at.at w is;
-      ran = (c.loop-at.invariant.ran.0 ++ w.steps,
-        turns_more g.O.Origin.objects g.O.Origin.faults c.requires.world.0 c.requires.world.1 (seen c.args.self.now) (seen c.loop-at.self) (seen c.work_out.new.self) c.loop-at.at w is c.loop-at.invariant.cast c.loop-at.invariant.ran.1);
+      ran = (
+        c.loop-at.invariant.ran.0 ++ w.steps,
+        turns_more g.O.Origin.objects g.O.Origin.faults c.requires.world.0 c.requires.world.1 (seen c.args.self.now) (seen c.loop-at.self) (seen c.work_out.new.self) c.loop-at.at w is c.loop-at.invariant.cast c.loop-at.invariant.ran.1,
+      );
       ended = ended_more g.O.Origin.objects g.O.Origin.faults c.requires.world.0 c.requires.world.1 (seen c.args.self.now) (seen c.loop-at.self) (seen c.work_out.new.self) c.loop-at.at w is c.loop-at.invariant.ended;
     }
 
