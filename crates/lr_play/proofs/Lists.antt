@@ -1,5 +1,6 @@
 -- Lists, place by place.
-use Rattle.std.proofs.Common.{◌≡◌, ◌<◌, ◌+◌, ℕ, zero, suc, List, [], ◌∷◌, ◌++◌, length, map, Some, slice_get, get_or, refl, sym, ap, subst, ◌∙◌, arith}
+use Rattle.std.proofs.Common.{◌≡◌, ◌<◌, ◌+◌, ℕ, zero, suc, List, [], ◌∷◌, ◌++◌, length, map, Some, slice_get, get_or, append_assoc, refl, sym, ap, subst, ◌∙◌, arith}
+use Rattle.std.specs.Prelude.{remove}
 use Rattle.std.specs.List.{AllByRecursion, AllZip}
 
 pub zip_push : {X Y : Type 0} (R : X → Y → Type 0) (xs : List X) (ys : List Y) (x : X) (y : Y) → AllZip R xs ys → R x y → AllZip R (xs ++ x ∷ []) (ys ++ y ∷ [])
@@ -105,3 +106,9 @@ got (y ∷ xs) (suc i) x l e = got xs i x (omega arith) e
 pub no_items : {X : Type 0} (xs : List X) → length xs ≡ 0 → xs ≡ []
 no_items [] e = refl
 no_items (x ∷ xs) e = absurd (cc)
+
+-- the first element goes behind those in front
+pub one_more : {X : Type 0} (all before rest after : List X) (x : X) → all ≡ before ++ rest → 0 < length rest → x ≡ get_or rest 0 x → after ≡ remove rest 0 → all ≡ (before ++ x ∷ []) ++ after
+one_more all before [] after x e some is left = absurd (omega arith)
+one_more all before (y ∷ rest) after x e some is left =
+    e ∙ (ap (λ (z : _). before ++ z ∷ rest) (sym is) ∙ (sym (append_assoc before (x ∷ []) rest) ∙ ap (λ (ys : List _). (before ++ x ∷ []) ++ ys) (sym left)))

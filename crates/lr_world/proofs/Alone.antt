@@ -1,37 +1,31 @@
 -- Turns of an actor while no other one has a claim out.
-use Rattle.std.proofs.Common.{◌≡◌, ◌<◌, ◌≤◌, ◌+◌, ℕ, zero, suc, List, [], ◌∷◌, ◌++◌, length, map, take, Bool, true, false, cond, Option, Some, None, slice_get, refl, ap, sym, subst, ◌∙◌, inl, inr, arith}
-use Rattle.std.specs.Prelude.{◌≢◌, ◌⊎◌, ⊤, IsSome}
-use Rattle.std.proofs.lemmas.Option.{slice_get_within}
+use Rattle.std.proofs.Common.{◌≡◌, ◌<◌, ◌+◌, ℕ, zero, suc, List, [], ◌∷◌, ◌++◌, length, false, cond, Option, Some, None, slice_get, refl, ap, sym, subst, ◌∙◌, inl, inr, arith}
+use Rattle.std.specs.Prelude.{◌≢◌, ⊤, IsSome}
 use Rattle.std.proofs.lemmas.List.{length-map}
 use Rattle.lr_object.specs.declared.id.ObjectId.{ObjectId}
 use Rattle.lr_object.specs.declared.id.ObjectId.TheVariants.{Cache}
 use Rattle.lr_origin.specs.Objects.{Objects as Stored}
-use Rattle.lr_manifest.specs.declared.name.Name.{Name}
-use Rattle.lr_cache.specs.declared.call.CacheCall.TheVariants.{Look}
 use Rattle.lr_cache.specs.declared.call.CacheReply.TheVariants.{Busy}
 use Rattle.lr_walk.specs.Steps.{Reply}
 use Rattle.lr_walk.specs.Jobs.{Context}
 use Rattle.lr_history.specs.Ready.{claim_by, out_after}
 use Rattle.lr_actors.specs.declared.action.ActorCall.{ActorCall}
-use Rattle.lr_actors.specs.declared.action.ActorCall.TheVariants as call
 use Rattle.lr_actors.specs.declared.action.ActorReply.{ActorReply}
 use Rattle.lr_actors.specs.declared.action.ActorReply.TheVariants as by
 use Rattle.lr_actors.specs.Asked.{seen_reply}
 use Rattle.lr_actors.specs.Actor as actor
 use Rattle.lr_actors.specs.Actor.{Now, works, idles, reaps, over}
-use Rattle.lr_replies.specs.Objects.{Objects, own_lists, Replies}
+use Rattle.lr_replies.specs.Objects.{own_lists, Replies}
 use Rattle.lr_world.specs.Laws.{Laws}
 use Rattle.lr_world.specs.declared.world.Turn.{Turn}
 use Rattle.lr_world.specs.declared.world.Turn.TheVariants as turn
-use Rattle.lr_world.specs.Turns.{turn_of, goes_on, TurnedBy, Turned, Waits, IsBusy, Goes, IsAlone, Falls, LeavesActors, IsOverAt}
-use Rattle.lr_world.specs.World.{Seen, objects_of, Part, part_of, cast_of, numbers_of, IsNumber, HasCalls, HasNoClaims, claim_out, IsInPlace, IsWorld, Called, StepsNow, StepsBy, IsFree, weight_of}
-use Rattle.lr_world.specs.Runs.{HasEnded, IsGoing, Works, begun, goes, InTurn, next}
+use Rattle.lr_world.specs.Turns.{turn_of, goes_on, TurnedBy, IsBusy, Goes, IsAlone, Falls, IsOverAt}
+use Rattle.lr_world.specs.World.{Seen, objects_of, Part, part_of, cast_of, HasCalls, claim_out, IsWorld, Called, StepsNow, IsFree, weight_of}
+use Rattle.lr_world.specs.Runs.{Works, goes}
 use Rattle.lr_world.proofs.Taken.{part_at}
-use Rattle.lr_world.proofs.Leases.{same_or_not}
-use Rattle.lr_world.proofs.Kept.{steps_cast, steps_others}
+use Rattle.lr_world.proofs.Kept.{steps_cast}
 use Rattle.lr_world.proofs.Falls.{BusyCall, busy, busy_only}
-use Rattle.lr_world.proofs.Found.{same_actor, one_number, actor_in}
-use Rattle.lr_world.proofs.Gone.{lt_of}
+use Rattle.lr_world.proofs.Found.{same_actor, actor_in}
 
 pub some_none : {X P : Type 0} (o : Option X) → o ≡ None → IsSome o → P
 some_none None e s = absurd (cc)

@@ -1,8 +1,7 @@
 -- New actors over objects are a world.
-use Rattle.std.proofs.Common.{◌≡◌, ◌≤◌, ℕ, List, [], length, Option, Some, None, slice_get, refl, ap, sym, subst, ◌∙◌, arith}
+use Rattle.std.proofs.Common.{◌≡◌, ℕ, [], Some, None, slice_get, ap, sym, subst}
 use Rattle.lr_object.specs.declared.id.ObjectId.{ObjectId}
 use Rattle.lr_object.specs.declared.id.ObjectId.TheVariants.{Device, Cache, Node, Depot}
-use Rattle.lr_walk.specs.Steps.{Step}
 use Rattle.lr_walk.specs.Calls.{DevicePlace}
 use Rattle.lr_walk.specs.Jobs.{Context}
 use Rattle.lr_walk.specs.Trails.{Lists}

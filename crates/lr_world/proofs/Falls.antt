@@ -1,5 +1,5 @@
 -- A turn lowers the weight of a world, or its actor waits.
-use Rattle.std.proofs.Common.{◌≡◌, ◌<◌, ◌≤◌, ◌+◌, ◌*◌, ℕ, zero, suc, List, [], ◌∷◌, length, Bool, true, false, Option, Some, None, slice_get, refl, ap, sym, subst, ◌∙◌, inl, inr, arith}
+use Rattle.std.proofs.Common.{◌≡◌, ◌<◌, ◌≤◌, ◌+◌, ◌*◌, ℕ, suc, List, [], ◌∷◌, length, Option, Some, None, slice_get, refl, ap, sym, subst, ◌∙◌, inl, inr, arith}
 use Rattle.std.specs.Prelude.{◌≢◌, ◌⊎◌, ⊤, sum_by, IsSome}
 use Rattle.std.proofs.Math.ListN.{set}
 use Rattle.std.specs.FinMap as map
@@ -20,15 +20,12 @@ use Rattle.lr_cache.specs.declared.call.CacheCall.{CacheCall}
 use Rattle.lr_cache.specs.declared.call.CacheCall.TheVariants.{Look}
 use Rattle.lr_cache.specs.declared.call.CacheReply.{CacheReply}
 use Rattle.lr_cache.specs.declared.call.CacheReply.TheVariants.{Busy}
-use Rattle.lr_depot.specs.declared.call.DepotCall.{DepotCall}
-use Rattle.lr_depot.specs.declared.call.DepotReply.{DepotReply}
 use Rattle.lr_depot.specs.declared.call.DepotReply.TheVariants.{Removed}
 use Rattle.lr_depot.specs.Machine.{is_logged}
 use Rattle.lr_depot.specs.Depot.{state}
 use Rattle.lr_depot.specs.Begun.{Start}
-use Rattle.lr_walk.specs.Steps.{Call, on_cache, on_depot, Reply, by_cache, by_depot, Step}
+use Rattle.lr_walk.specs.Steps.{on_cache}
 use Rattle.lr_walk.specs.Cache as caches
-use Rattle.lr_walk.specs.Depot as depots
 use Rattle.lr_walk.specs.Jobs.{Context}
 use Rattle.lr_history.specs.Ready.{claim_by, out_after, own_in}
 use Rattle.lr_actors.specs.declared.action.ActorCall.{ActorCall}
@@ -40,7 +37,7 @@ use Rattle.lr_actors.specs.declared.single.Single.TheVariants as one
 use Rattle.lr_actors.specs.declared.running.Running.{Running}
 use Rattle.lr_actors.specs.declared.running.Running.TheVariants.{Serves, Makes, Forges, Collects, Migrates, Creates}
 use Rattle.lr_actors.specs.Asked.{Asked, a_call, HandsCall, seen_reply}
-use Rattle.lr_actors.specs.Running.{Task, serves, task_of, asked}
+use Rattle.lr_actors.specs.Running.{serves, asked}
 use Rattle.lr_actors.specs.Serving.{Work}
 use Rattle.lr_actors.specs.Singles as singles
 use Rattle.lr_actors.specs.Forging as forging
@@ -55,9 +52,8 @@ use Rattle.lr_replies.specs.Objects.{Objects, log_of, Replies, Calls, IsReplaced
 use Rattle.lr_replies.specs.Replies.{IsReady}
 use Rattle.lr_world.specs.Laws.{Laws}
 use Rattle.lr_world.specs.declared.world.Turn.{Turn}
-use Rattle.lr_world.specs.declared.world.Turn.TheVariants as turn
-use Rattle.lr_world.specs.Turns.{turn_of, Turned, Waits, IsBusy, Goes}
-use Rattle.lr_world.specs.World.{Seen, objects_of, Part, part_of, cast_of, HasJob, HasCalls, claim_out, IsWorld, Called, Idled, StepsNow, keys_of, weight_of}
+use Rattle.lr_world.specs.Turns.{turn_of, Turned, IsBusy, Goes}
+use Rattle.lr_world.specs.World.{Seen, objects_of, part_of, IsWorld, Called, Idled, StepsNow, keys_of, weight_of}
 use Rattle.lr_world.proofs.Keys.{keys_few, keys_removed}
 use Rattle.lr_world.proofs.Taken.{part_at, ready}
 use Rattle.lr_world.proofs.Kept.{near, nears_less}

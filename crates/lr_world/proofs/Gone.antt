@@ -1,6 +1,6 @@
 -- Who has ended holds nothing, and who crashed nothing that it has reaped.
-use Rattle.std.proofs.Common.{◌≡◌, ◌<◌, ◌≤◌, ◌+◌, ◌-◌, ℕ, zero, suc, List, [], ◌∷◌, ◌++◌, length, map, fold, Bool, true, false, cond, nat_eq, Option, Some, None, slice_get, refl, ap, sym, subst, ◌∙◌, inl, inr, arith, eq-eqb, lt-ltb, le-ltb, eqb-true}
-use Rattle.std.specs.Prelude.{◌≢◌, ◌⊎◌, ⊤, nat_lt, if◌then◌else◌}
+use Rattle.std.proofs.Common.{◌≡◌, ◌<◌, ◌≤◌, ◌+◌, ℕ, List, [], ◌∷◌, ◌++◌, length, Bool, true, false, cond, nat_eq, Option, Some, None, slice_get, refl, ap, sym, subst, ◌∙◌, inl, inr, arith, eq-eqb, lt-ltb, le-ltb, eqb-true}
+use Rattle.std.specs.Prelude.{◌≢◌, ◌⊎◌, nat_lt, if◌then◌else◌}
 use Rattle.std.proofs.lemmas.List.Sums.{fold-append}
 use Rattle.std.proofs.lemmas.Option.{slice_get_past}
 use Rattle.std.proofs.lemmas.Bool.{cases_lt}
@@ -17,10 +17,9 @@ use Rattle.lr_cache.specs.declared.call.CacheCall.TheVariants as cached
 use Rattle.lr_cache.specs.declared.call.CacheReply.{CacheReply}
 use Rattle.lr_cache.specs.declared.call.CacheReply.TheVariants as told
 use Rattle.lr_cache.specs.Machine.{CacheStep, run}
-use Rattle.lr_walk.specs.Steps.{Call, on_device, on_cache, on_node, on_depot, Reply, by_device, by_cache, by_node, by_depot, Step, step, object_of, is_memory}
+use Rattle.lr_walk.specs.Steps.{Call, on_device, on_cache, Reply, by_device, by_cache, by_depot, Step, step, object_of, is_memory}
 use Rattle.lr_walk.specs.Depot as depots
 use Rattle.lr_walk.specs.Cache as caches
-use Rattle.lr_walk.specs.Node as nodes
 use Rattle.lr_walk.specs.Device as devices
 use Rattle.lr_walk.specs.Jobs.{Context}
 use Rattle.lr_walk.specs.Trails.{Lists, is_same}
@@ -32,7 +31,7 @@ use Rattle.lr_actors.specs.declared.action.ActorReply.{ActorReply}
 use Rattle.lr_actors.specs.declared.action.ActorReply.TheVariants as by
 use Rattle.lr_actors.specs.declared.trail.ActorState.{ActorState}
 use Rattle.lr_actors.specs.declared.trail.ActorState.TheVariants.{Unfinished, Ended, Crashed}
-use Rattle.lr_actors.specs.Asked.{Asked, a_call, HandsCall, seen_reply}
+use Rattle.lr_actors.specs.Asked.{a_call, HandsCall, seen_reply}
 use Rattle.lr_actors.specs.Actor as actor
 use Rattle.lr_actors.specs.Actor.{Now, works, idles, reaps, over, IsActor, StandsFor, FitsNow, reap_at, reap_of, reap_place, reap_count, reaps_from, Reaps, GrowsBy}
 use Rattle.lr_replies.specs.Objects.{Objects, log_of, own_lists, Replies}

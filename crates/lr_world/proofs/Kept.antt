@@ -1,6 +1,6 @@
 -- A turn leaves a world.
-use Rattle.std.proofs.Common.{◌≡◌, ◌<◌, ◌≤◌, ◌+◌, ◌*◌, ℕ, zero, suc, List, [], ◌∷◌, length, drop, map, Bool, true, false, Option, Some, None, slice_get, refl, ap, sym, subst, ◌∙◌, inl, inr, arith, ltb-true, ltb-false}
-use Rattle.std.specs.Prelude.{◌≢◌, ◌⊎◌, ⊤, nat_lt, if◌then◌else◌}
+use Rattle.std.proofs.Common.{◌≡◌, ◌<◌, ◌≤◌, ◌+◌, ℕ, zero, suc, List, [], ◌∷◌, length, drop, map, Bool, true, false, Option, Some, None, slice_get, refl, ap, sym, subst, ◌∙◌, inl, inr, arith, ltb-false}
+use Rattle.std.specs.Prelude.{◌≢◌, ◌⊎◌, nat_lt, if◌then◌else◌}
 use Rattle.std.proofs.Math.ListN.{set}
 use Rattle.std.proofs.lemmas.Option.{slice_get_within}
 use Rattle.std.proofs.lemmas.Bool.{cases_lt}
@@ -9,7 +9,7 @@ use Rattle.lr_object.specs.declared.id.ObjectId.TheVariants.{Device, Cache, Node
 use Rattle.lr_origin.specs.Objects.{Objects as Stored}
 use Rattle.lr_depot.specs.declared.call.DepotCall.TheVariants as depot
 use Rattle.lr_depot.specs.declared.call.DepotReply.TheVariants as told
-use Rattle.lr_walk.specs.Steps.{Call, on_depot, Reply, by_cache, by_depot, Step}
+use Rattle.lr_walk.specs.Steps.{on_depot, Reply, by_cache, by_depot, Step}
 use Rattle.lr_walk.specs.Cache as caches
 use Rattle.lr_walk.specs.Depot as depots
 use Rattle.lr_walk.specs.Jobs.{Context}
@@ -22,11 +22,11 @@ use Rattle.lr_actors.specs.declared.action.ActorReply.TheVariants as by
 use Rattle.lr_actors.specs.declared.trail.ActorState.{ActorState}
 use Rattle.lr_actors.specs.declared.trail.ActorState.TheVariants.{Unfinished, Ended, Crashed}
 use Rattle.lr_actors.specs.Running.{steps_left}
-use Rattle.lr_actors.specs.Asked.{Asked, a_call, HandsCall, seen_reply}
+use Rattle.lr_actors.specs.Asked.{a_call, HandsCall, seen_reply}
 use Rattle.lr_actors.specs.Jobs.{Job, closes, bound_of}
 use Rattle.lr_actors.specs.Actor as actor
 use Rattle.lr_actors.specs.Actor.{Now, works, idles, reaps, over, handed, IsActor, IsSame, StandsFor, StandsNow, StandsReaped, reaps_of, Took, Passed, FitsNow, ReapsOn, Gains, AddsNow, Nears, asks_now, reap_at, reap_of, reap_place, reap_count, reaps_from, reaps_ahead, bounds_of, left, now_left}
-use Rattle.lr_replies.specs.Objects.{Objects, own_lists, Replies, Calls}
+use Rattle.lr_replies.specs.Objects.{Objects, own_lists, Replies}
 use Rattle.lr_replies.specs.Replies.{AreMade, IsReady, HasLease}
 use Rattle.lr_world.specs.Laws.{Laws}
 use Rattle.lr_world.specs.World.{Seen, objects_of, Part, part_of, cast_of, IsCast, IsNumber, HasCalls, HasNoneOut, LetsGo, IsInPlace, IsWorld, Called, Idled, StepsNow}

@@ -1,10 +1,10 @@
 -- How many keys the depot's view has.
-use Rattle.std.proofs.Common.{◌≡◌, ◌<◌, ◌≤◌, ◌+◌, ◌-◌, ℕ, List, [], ◌∷◌, ◌++◌, Bool, true, false, cond, Option, Some, None, refl, ap, sym, subst, ◌∙◌, arith}
-use Rattle.std.specs.Prelude.{is_some, MatchBool}
+use Rattle.std.proofs.Common.{◌≡◌, ◌≤◌, ◌+◌, ◌-◌, ℕ, List, [], ◌∷◌, ◌++◌, Bool, true, false, cond, Option, Some, None, refl, ap, sym, subst, ◌∙◌, arith}
+use Rattle.std.specs.Prelude.{is_some}
 use Rattle.std.specs.Arc.{arc_value}
 use Rattle.std.specs.FinMap as fin
 use Rattle.std.proofs.lemmas.List.Sums.{fold-append}
-use Rattle.lr_origin.specs.Kind.{kind_cmp, kind_total}
+use Rattle.lr_origin.specs.Kind.{kind_total}
 use Rattle.lr_origin.specs.declared.key.KeyKind.{KeyKind}
 use Rattle.lr_origin.specs.declared.key.KeyKind.TheVariants as kind
 use Rattle.lr_roots.specs.View.{View, Held}
@@ -21,7 +21,7 @@ use Rattle.lr_depot.specs.declared.call.DepotTold.{DepotTold}
 use Rattle.lr_depot.specs.declared.call.DepotTold.TheVariants as told
 use Rattle.lr_depot.specs.Begun.{Start}
 use Rattle.lr_depot.specs.Depot.{first_state, state}
-use Rattle.lr_depot.specs.Machine.{LogEntry, Enters, DepotStep, IsNextItem, state_after, after_entry, is_logged}
+use Rattle.lr_depot.specs.Machine.{LogEntry, Enters, DepotStep, IsNextItem, state_after, after_entry}
 use Rattle.lr_replies.specs.Objects.{Logs}
 
 -- a view with a key more, or a key less

@@ -1,7 +1,6 @@
 -- The leases of jobs to come stay out.
-use Rattle.std.proofs.Common.{◌≡◌, ◌<◌, ◌≤◌, ℕ, List, length, map, Option, Some, None, slice_get, refl, ap, sym, subst, ◌∙◌, inl, inr, arith}
+use Rattle.std.proofs.Common.{◌≡◌, ◌<◌, ◌≤◌, ℕ, List, length, Some, slice_get, sym, subst, ◌∙◌, inl, inr, arith}
 use Rattle.std.specs.Prelude.{◌≢◌, ◌⊎◌, ⊤}
-use Rattle.std.proofs.Math.ListN.{set}
 use Rattle.std.proofs.lemmas.Bool.{cases_lt}
 use Rattle.lr_device.specs.declared.call.DeviceCall.{DeviceCall}
 use Rattle.lr_depot.specs.declared.call.DepotCall.TheVariants as depot
@@ -14,7 +13,7 @@ use Rattle.lr_actors.specs.Jobs.{Job, calls, closes}
 use Rattle.lr_actors.specs.Actor as actor
 use Rattle.lr_actors.specs.Actor.{NextJob, ClosesFor, MayClose}
 use Rattle.lr_replies.specs.Objects.{Objects, Calls}
-use Rattle.lr_replies.specs.Replies.{IsOut, HasLease, IsNoClose, LeasesStayOut}
+use Rattle.lr_replies.specs.Replies.{HasLease, IsNoClose, LeasesStayOut}
 use Rattle.lr_world.specs.World.{Part, part_of, HasJob, IsCast}
 
 -- numbers are equal or not

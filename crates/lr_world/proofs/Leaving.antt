@@ -1,11 +1,8 @@
 -- What a run of steps leaves.
-use Rattle.std.proofs.Common.{◌≡◌, ◌<◌, ◌≤◌, ◌+◌, ℕ, zero, suc, List, [], ◌∷◌, ◌++◌, length, map, Bool, true, false, cond, Option, Some, None, slice_get, refl, ap, sym, subst, ◌∙◌, append-nil, append_assoc, inl, inr, arith}
-use Rattle.std.specs.Prelude.{◌≢◌, ◌⊎◌, ◌==◌, ⊤, replicate, MatchBool}
-use Rattle.std.specs.List.{AllByRecursion}
-use Rattle.lr_spec.specs.Rose.{last_count, next_count}
+use Rattle.std.proofs.Common.{◌≡◌, ℕ, List, [], ◌∷◌, ◌++◌, length, Bool, true, false, Option, Some, slice_get, refl, ap, sym, subst, ◌∙◌, append-nil, append_assoc, inl, inr}
+use Rattle.std.specs.Prelude.{◌≢◌, ◌⊎◌, ⊤}
 use Rattle.lr_object.specs.declared.entry.Entry.{Entry}
 use Rattle.lr_object.specs.Kept.{Sized}
-use Rattle.lr_object.specs.declared.id.ObjectId.{ObjectId}
 use Rattle.lr_origin.specs.Objects.{Objects as Stored}
 use Rattle.lr_depot.specs.declared.call.DepotCall.TheVariants as depot
 use Rattle.lr_device.specs.Enters as device
@@ -23,10 +20,10 @@ use Rattle.lr_actors.specs.declared.action.ActorReply.TheVariants as by
 use Rattle.lr_actors.specs.Jobs.{closes}
 use Rattle.lr_actors.specs.Actor as actor
 use Rattle.lr_actors.specs.Actor.{Now, works, idles, reaps, over, MayClose}
-use Rattle.lr_replies.specs.Objects.{Objects, own_lists, Calls, Logs, LogsAt, IsReplaced}
+use Rattle.lr_replies.specs.Objects.{Objects, Calls, Logs, LogsAt}
 use Rattle.lr_replies.specs.Replies.{IsOut, IsNoClose}
 use Rattle.lr_world.specs.Laws.{Laws}
-use Rattle.lr_world.specs.World.{Seen, objects_of, Part, part_of, cast_of, IsNumber, HasJob, IsWorld, StepsNow, StepsBy, Steps}
+use Rattle.lr_world.specs.World.{Seen, objects_of, Part, part_of, cast_of, IsNumber, HasJob, IsWorld, StepsNow, StepsBy}
 use Rattle.lr_world.specs.Runs.{Runs, none, more, Gained, HaveGained, Grew, Left}
 use Rattle.lr_world.proofs.Taken.{part_at}
 use Rattle.lr_world.proofs.Leases.{same_or_not, Closing, closing_of}

@@ -1,19 +1,17 @@
 -- How an actor comes nearer to its end, job by job.
-use Rattle.std.proofs.Common.{◌≡◌, ◌<◌, ◌≤◌, ◌+◌, ℕ, zero, suc, List, [], ◌∷◌, length, drop, Option, Some, None, slice_get, refl, ap, sym, subst, ◌∙◌, arith}
+use Rattle.std.proofs.Common.{◌≡◌, ◌<◌, ◌≤◌, ◌+◌, ℕ, zero, suc, List, [], ◌∷◌, length, drop, Option, Some, None, slice_get, refl, ap, sym, subst, arith}
 use Rattle.std.specs.Prelude.{◌≢◌, ◌⊎◌}
 use Rattle.std.proofs.Common.{inl, inr}
 use Rattle.std.proofs.lemmas.Bool.{cases_lt}
 use Rattle.lr_collector.specs.Progress as collections
 use Rattle.lr_migrator.specs.Progress as migrations
 use Rattle.lr_creator.specs.Progress as creations
-use Rattle.lr_loader.specs.Progress as loads
 use Rattle.lr_collector.specs.declared.collect.CollectJob.{CollectJob}
 use Rattle.lr_actors.specs.declared.single.Single.{Single}
 use Rattle.lr_actors.specs.declared.trail.ActorState.{ActorState}
 use Rattle.lr_actors.specs.declared.trail.ActorState.TheVariants.{Unfinished, Ended, Crashed}
 use Rattle.lr_actors.specs.declared.running.Running.{Running}
 use Rattle.lr_actors.specs.declared.running.Running.TheVariants.{Serves, Makes, Forges, Collects, Migrates, Creates}
-use Rattle.lr_actors.specs.Asked.{Asked}
 use Rattle.lr_actors.specs.Running as running
 use Rattle.lr_actors.specs.Running.{steps_left}
 use Rattle.lr_actors.specs.Serving as serving
@@ -22,9 +20,9 @@ use Rattle.lr_actors.specs.Forging as forging
 use Rattle.lr_actors.specs.Collecting as collecting
 use Rattle.lr_actors.specs.Migrating as migrating
 use Rattle.lr_actors.specs.Creating as creating
-use Rattle.lr_actors.specs.Bounds.{collects_left, moves_left, moves_ahead, puts_left}
+use Rattle.lr_actors.specs.Bounds.{collects_left, moves_ahead, puts_left}
 use Rattle.lr_actors.specs.Jobs.{Job, calls, creates, migrates, collects, closes, evicts, drops_stripe, flips_stripe, forges, loses, bound_of}
-use Rattle.lr_actors.specs.Actor.{Seen, Now, works, idles, reaps, over, IsCall, IsActor, IsSame, FitsNow, FitsState, FitsCrash, ReapsOn, bounds_of, reaps_ahead, jobs_ahead, now_left, left, reap_count}
+use Rattle.lr_actors.specs.Actor.{Seen, Now, works, idles, reaps, over, IsCall, IsActor, IsSame, FitsNow, FitsState, ReapsOn, bounds_of, reaps_ahead, now_left, left, reap_count}
 
 -- ---- a call that is asked is a step to make
 

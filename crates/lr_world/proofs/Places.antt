@@ -1,7 +1,6 @@
 -- A list with another element at one place, and logs of one call.
-use Rattle.std.proofs.Common.{◌≡◌, ◌<◌, ◌+◌, ℕ, zero, suc, List, [], ◌∷◌, ◌++◌, length, map, Bool, true, false, Some, None, slice_get, arith, refl, ap, sym, ◌∙◌, subst}
+use Rattle.std.proofs.Common.{◌≡◌, ◌<◌, ℕ, zero, suc, List, [], ◌∷◌, ◌++◌, length, Bool, true, false, Some, slice_get, arith, refl, ap, sym, subst}
 use Rattle.std.specs.Prelude.{◌≢◌, MatchBool}
-use Rattle.std.specs.Bool.{OnFalse}
 use Rattle.std.proofs.Math.ListN.{set}
 use Rattle.std.proofs.lemmas.Grind.{common_steps}
 use Rattle.lr_object.specs.declared.entry.Entry.{Entry}

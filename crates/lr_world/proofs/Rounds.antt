@@ -1,18 +1,18 @@
 -- A round lowers the weight of a world, or all have ended.
-use Rattle.std.proofs.Common.{◌≡◌, ◌<◌, ◌≤◌, ◌+◌, ℕ, zero, suc, List, [], ◌∷◌, ◌++◌, length, map, take, Bool, true, false, Option, Some, None, slice_get, refl, ap, sym, subst, ◌∙◌, inl, inr, arith}
-use Rattle.std.specs.Prelude.{◌≢◌, ◌⊎◌, ◌||◌, ⊤, IsSome}
+use Rattle.std.proofs.Common.{◌≡◌, ◌<◌, ◌≤◌, ◌+◌, ℕ, zero, suc, List, [], ◌∷◌, ◌++◌, length, take, Bool, true, false, Option, Some, None, slice_get, refl, ap, sym, subst, ◌∙◌, inl, inr, arith}
+use Rattle.std.specs.Prelude.{◌≢◌, ◌⊎◌, ◌||◌}
 use Rattle.lr_object.specs.declared.id.ObjectId.TheVariants.{Cache}
 use Rattle.lr_origin.specs.Objects.{Objects as Stored}
 use Rattle.lr_walk.specs.Jobs.{Context}
 use Rattle.lr_actors.specs.Actor as actor
 use Rattle.lr_actors.specs.Actor.{Now, works, idles, reaps, over}
-use Rattle.lr_replies.specs.Objects.{Objects, own_lists}
+use Rattle.lr_replies.specs.Objects.{Objects}
 use Rattle.lr_world.specs.declared.world.Turn.{Turn}
 use Rattle.lr_world.specs.declared.world.Turn.TheVariants as turn
 use Rattle.lr_world.specs.Turns.{turn_of, goes_on, Turned, Waits, IsBusy, Goes, LeavesActors}
 use Rattle.lr_world.specs.Rounding.{Stalled, SoFar}
-use Rattle.lr_world.specs.World.{Seen, objects_of, Part, part_of, cast_of, numbers_of, IsNumber, HasCalls, claim_out, LetsGo, IsWorld, StepsNow, weight_of}
-use Rattle.lr_world.specs.Runs.{HasEnded, IsGoing, AllEnded, Round, begun, goes, rests}
+use Rattle.lr_world.specs.World.{Seen, objects_of, Part, part_of, cast_of, numbers_of, IsNumber, HasCalls, claim_out, LetsGo, IsWorld, weight_of}
+use Rattle.lr_world.specs.Runs.{HasEnded, AllEnded, Round, begun, goes, rests}
 use Rattle.lr_world.proofs.Taken.{part_at}
 use Rattle.lr_world.proofs.Leases.{same_or_not}
 use Rattle.std.proofs.lemmas.Option.{slice_get_within}

@@ -1,8 +1,7 @@
 -- Runs of steps.
-use Rattle.std.proofs.Common.{◌≡◌, ◌<◌, ◌≤◌, ◌+◌, ℕ, zero, suc, List, [], ◌∷◌, ◌++◌, length, map, take, Option, Some, None, slice_get, refl, ap, sym, subst, ◌∙◌, append-nil, append_assoc, arith}
+use Rattle.std.proofs.Common.{◌≡◌, ◌+◌, ℕ, zero, suc, List, [], ◌∷◌, ◌++◌, take, Option, Some, slice_get, refl, ap, sym, subst, ◌∙◌, append-nil, append_assoc, arith}
 use Rattle.std.specs.Prelude.{replicate}
 use Rattle.lr_origin.specs.Objects.{Objects as Stored}
-use Rattle.lr_actors.specs.Actor as actor
 use Rattle.lr_world.specs.World.{Seen, Steps}
 use Rattle.lr_world.specs.Runs.{Runs, none, more, listed}
 

@@ -1,5 +1,5 @@
 -- Each schedule is a run, and the steps of an unfinished actor are counted.
-use Rattle.std.proofs.Common.{◌≡◌, ◌<◌, ◌≤◌, ◌+◌, ℕ, zero, suc, List, [], ◌∷◌, ◌++◌, length, map, Bool, true, false, cond, Option, Some, None, slice_get, refl, ap, sym, subst, ◌∙◌, append-nil, append_assoc, inl, inr, arith, eqb-true, eq-eqb, lt-ltb}
+use Rattle.std.proofs.Common.{◌≡◌, ◌<◌, ◌≤◌, ◌+◌, ℕ, zero, suc, List, [], ◌∷◌, ◌++◌, Bool, true, false, cond, Option, Some, slice_get, refl, ap, sym, subst, ◌∙◌, inl, inr, arith, eqb-true, eq-eqb, lt-ltb}
 use Rattle.std.specs.Prelude.{◌≢◌, ◌⊎◌, ◌==◌, ⊤, replicate, nat_lt, if◌then◌else◌}
 use Rattle.std.proofs.Math.ListN.{set}
 use Rattle.std.proofs.lemmas.Option.{slice_get_within}
@@ -9,17 +9,17 @@ use Rattle.lr_walk.specs.Steps.{Reply}
 use Rattle.lr_walk.specs.Jobs.{Context}
 use Rattle.lr_script.specs.Seen.{ScheduleSeen, Serial, Rounds, Pairs}
 use Rattle.lr_actors.specs.declared.trail.ActorState.{ActorState}
-use Rattle.lr_actors.specs.declared.trail.ActorState.TheVariants.{Unfinished, Ended, Crashed}
+use Rattle.lr_actors.specs.declared.trail.ActorState.TheVariants.{Unfinished, Crashed}
 use Rattle.lr_actors.specs.Actor as actor
 use Rattle.lr_actors.specs.Actor.{Now, works, idles, reaps, over, FitsNow, ReapsOn, counted}
 use Rattle.lr_world.specs.Laws.{Laws}
-use Rattle.lr_world.specs.World.{Seen, objects_of, Part, part_of, cast_of, numbers_of, IsWorld, StepsNow, StepsBy, Steps, IsFree}
+use Rattle.lr_world.specs.World.{Seen, Part, part_of, cast_of, numbers_of, IsWorld, StepsNow, Steps, IsFree}
 use Rattle.lr_world.specs.Runs.{Runs, none, more, Works, InTurn, Round, InRounds, listed, IsScheduled, steps_for, AreCounted}
 use Rattle.lr_world.specs.Runs as order
 use Rattle.lr_world.proofs.Places.{at_same}
 use Rattle.lr_world.proofs.Leases.{same_or_not}
-use Rattle.lr_world.proofs.Kept.{steps_cast, steps_others}
-use Rattle.lr_world.proofs.Alone.{still_there, part_number, number_stays}
+use Rattle.lr_world.proofs.Kept.{steps_others}
+use Rattle.lr_world.proofs.Alone.{still_there, part_number}
 use Rattle.lr_world.proofs.Found.{one_number, same_actor}
 use Rattle.lr_world.proofs.Running.{runs_on}
 use Rattle.lr_world.proofs.Leaving.{runs_keep, runs_leave}

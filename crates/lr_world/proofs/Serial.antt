@@ -1,20 +1,19 @@
 -- One actor after another.
-use Rattle.std.proofs.Common.{◌≡◌, ◌<◌, ◌≤◌, ◌+◌, ℕ, zero, suc, List, [], ◌∷◌, ◌++◌, length, map, take, Option, Some, None, slice_get, refl, ap, sym, subst, ◌∙◌, inl, inr, arith}
+use Rattle.std.proofs.Common.{◌≡◌, ◌<◌, ◌≤◌, ◌+◌, ℕ, zero, suc, List, [], ◌∷◌, ◌++◌, length, take, Option, Some, None, slice_get, refl, ap, sym, subst, ◌∙◌, inl, inr, arith}
 use Rattle.std.specs.Prelude.{◌≢◌, ◌⊎◌}
 use Rattle.lr_object.specs.declared.id.ObjectId.TheVariants.{Cache}
 use Rattle.lr_origin.specs.Objects.{Objects as Stored}
 use Rattle.lr_walk.specs.Jobs.{Context}
 use Rattle.lr_actors.specs.Actor as actor
 use Rattle.lr_actors.specs.Actor.{Now, over}
-use Rattle.lr_replies.specs.Objects.{Objects, own_lists}
-use Rattle.lr_world.specs.Turns.{IsAlone, LeavesActors, IsOverAt}
+use Rattle.lr_world.specs.Turns.{IsAlone}
 use Rattle.lr_world.specs.Working.{WorkedOut}
-use Rattle.lr_world.specs.World.{Seen, objects_of, Part, part_of, cast_of, numbers_of, HasCalls, HasNoClaims, claim_out, LetsGo, HasNoneOut, IsWorld}
+use Rattle.lr_world.specs.World.{Seen, objects_of, Part, part_of, cast_of, numbers_of, HasCalls, HasNoClaims, claim_out, LetsGo, IsWorld}
 use Rattle.lr_world.specs.Runs.{HasEnded, InTurn, next}
 use Rattle.lr_world.proofs.Taken.{part_at}
 use Rattle.lr_world.proofs.Leases.{same_or_not}
 use Rattle.lr_world.proofs.Alone.{still_there}
-use Rattle.lr_world.proofs.Found.{one_number, same_actor}
+use Rattle.lr_world.proofs.Found.{one_number}
 use Rattle.lr_world.proofs.Gone.{lt_of}
 use Rattle.std.proofs.lemmas.List.{length-map}
 

@@ -1,32 +1,25 @@
 -- One turn, as the code takes it.
-use Rattle.std.proofs.Common.{◌≡◌, ◌<◌, ℕ, List, length, map, Bool, true, false, Option, Some, None, slice_get, refl, ap, sym, subst, ◌∙◌, arith}
+use Rattle.std.proofs.Common.{◌≡◌, ◌<◌, ℕ, List, length, true, false, Option, Some, slice_get, refl, ap, sym, subst, ◌∙◌, arith}
 use Rattle.std.specs.Prelude.{⊤}
 use Rattle.std.specs.Option.{option_map as mapped}
 use Rattle.std.proofs.Math.ListN.{set}
 use Rattle.std.proofs.lemmas.Option.{slice_get-map, get_or_from_slice_get}
 use Rattle.std.proofs.lemmas.List.{set-get_or}
 use Rattle.lr_origin.specs.Objects.{Objects as Stored}
-use Rattle.lr_object.specs.declared.id.ObjectId.TheVariants.{Device, Cache, Node, Depot}
 use Rattle.lr_walk.specs.Jobs.{Context}
-use Rattle.lr_actors.specs.declared.place.Parts.{Parts}
 use Rattle.lr_actors.specs.declared.action.ActorCall.{ActorCall}
 use Rattle.lr_actors.specs.declared.action.ActorCall.TheVariants as call
 use Rattle.lr_actors.specs.declared.action.ActorReply.{ActorReply}
-use Rattle.lr_actors.specs.declared.actor.ActorAction.{ActorAction}
 use Rattle.lr_actors.specs.declared.actor.ActorAction.TheVariants as action
-use Rattle.lr_actors.specs.Asked.{seen_reply}
 use Rattle.lr_actors.specs.Actor as actor
 use Rattle.lr_actors.specs.Actor.{Now, works, idles, reaps, over, handed, is_out, Took, Passed, HandsNow, AdmitsNow, Admits, IsWithin, object_called}
 use Rattle.lr_walk.specs.Steps.{Reply}
-use Rattle.lr_replies.specs.Objects.{Objects, Replies, Calls}
 use Rattle.lr_replies.specs.Replies.{AreMade, IsReady}
-use Rattle.lr_world.specs.Laws.{Laws}
 use Rattle.lr_world.specs.declared.world.World.{World}
-use Rattle.lr_world.specs.declared.world.Turn.{Turn}
 use Rattle.lr_world.specs.declared.world.Turn.TheVariants as turn
 use Rattle.lr_world.specs.Calling.{IsThere}
 use Rattle.lr_world.specs.Turns.{turn_of, Turned}
-use Rattle.lr_world.specs.World.{Seen, seen, objects_of, Part, part_of, cast_of, IsInPlace, IsWorld, Keeps, Called, Idled, StepsNow}
+use Rattle.lr_world.specs.World.{Seen, seen, objects_of, part_of, cast_of, IsInPlace, IsWorld, Called, StepsNow}
 
 -- the part of an actor at its place
 pub part_at : {O : Type 0} (w : Seen O) (i : ℕ) (a : actor.Seen) → slice_get w.actors i ≡ Some a → slice_get (cast_of w) i ≡ Some (part_of a)

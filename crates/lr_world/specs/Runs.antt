@@ -1,5 +1,5 @@
 -- Runs of steps, and in which order a schedule makes them.
-use Rattle.std.specs.Prelude.{◌≡◌, ◌≢◌, ◌≤◌, ◌+◌, ◌==◌, ℕ, List, [], ◌∷◌, ◌++◌, length, Bool, true, false, cond, count_by, replicate, Option, Some, slice_get, ⊤}
+use Rattle.std.specs.Prelude.{◌≡◌, ◌≢◌, ◌≤◌, ◌+◌, ◌==◌, ℕ, List, [], ◌∷◌, ◌++◌, length, true, false, cond, replicate, Option, Some, slice_get, ⊤}
 use Rattle.std.specs.List.{AllByRecursion}
 use Rattle.lr_spec.specs.Rose.{last_count}
 use Rattle.lr_object.specs.declared.id.ObjectId.{ObjectId}
@@ -7,7 +7,6 @@ use Rattle.lr_object.specs.declared.entry.Entry.{Entry}
 use Rattle.lr_object.specs.Kept.{Sized}
 use Rattle.lr_origin.specs.Objects.{Objects as Stored}
 use Rattle.lr_walk.specs.Calls.{DevicePlace}
-use Rattle.lr_walk.specs.Steps.{Reply}
 use Rattle.lr_script.specs.Seen.{ScheduleSeen, Serial, Rounds, Pairs}
 use Rattle.lr_actors.specs.declared.trail.ActorState.TheVariants.{Unfinished}
 use Rattle.lr_actors.specs.Actor as actor
@@ -15,7 +14,7 @@ use Rattle.lr_actors.specs.Actor.{over}
 use Rattle.lr_actors.specs.Jobs.{closes}
 use Rattle.lr_replies.specs.Objects.{Objects, own_lists}
 use Rattle.lr_replies.specs.Replies.{IsOut}
-use Rattle.lr_world.specs.World.{Seen, objects_of, Part, cast_of, numbers_of, IsNumber, HasJob, HasCalls, HasNoClaims, StepsBy, Steps, IsFree}
+use Rattle.lr_world.specs.World.{Seen, objects_of, Part, cast_of, IsNumber, HasJob, HasCalls, HasNoClaims, StepsBy, Steps, IsFree}
 
 -- one step after another, by the actors of these numbers
 pub data Runs {O : Type 0} (objects : O → Option Stored) (faults : O → ℕ) : Seen O → List ℕ → Seen O → Type 0 where

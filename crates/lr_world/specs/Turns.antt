@@ -1,5 +1,5 @@
 -- One turn of an actor, by its place.
-use Rattle.std.specs.Prelude.{◌≡◌, ◌≢◌, ◌⊎◌, ◌≤◌, ◌<◌, ℕ, List, Bool, true, false, Option, Some, None, IsSome, slice_get, ⊤}
+use Rattle.std.specs.Prelude.{◌≡◌, ◌≢◌, ◌⊎◌, ◌≤◌, ◌<◌, ℕ, Bool, true, false, Option, Some, None, IsSome, slice_get, ⊤}
 use Rattle.lr_walk.specs.Steps.{Reply}
 use Rattle.lr_origin.specs.Objects.{Objects as Stored}
 use Rattle.lr_walk.specs.Jobs.{Context}
@@ -11,7 +11,7 @@ use Rattle.lr_world.specs.declared.world.Turn.{Turn}
 use Rattle.lr_world.specs.declared.world.Turn.TheVariants as turn
 use Rattle.lr_world.specs.declared.world.Stepped.{Stepped}
 use Rattle.lr_world.specs.declared.world.Stepped.TheVariants as stepped
-use Rattle.lr_world.specs.World.{Seen, seen, objects_of, cast_of, HasCalls, claim_out, IsWorld, StepsNow, weight_of, IsFree}
+use Rattle.lr_world.specs.World.{Seen, seen, objects_of, cast_of, HasCalls, claim_out, IsWorld, StepsNow, weight_of}
 
 -- some context is the world's
 abbrev pub IsSomeWorld : {O : Type 0} → World O → Type 0

@@ -1,5 +1,5 @@
 -- A world: actors over the objects that they call on.
-use Rattle.std.specs.Prelude.{◌≡◌, ◌≢◌, ◌≤◌, ◌<◌, ◌+◌, ◌*◌, ℕ, List, [], ◌∷◌, ◌++◌, length, map, sum_by, Bool, false, MatchBool, Option, Some, None, IsSome, slice_get, slice_set, ⊤}
+use Rattle.std.specs.Prelude.{◌≡◌, ◌≤◌, ◌<◌, ◌+◌, ◌*◌, ℕ, List, [], ◌∷◌, ◌++◌, length, map, sum_by, false, MatchBool, Option, Some, None, slice_get, slice_set, ⊤}
 use Rattle.std.specs.Prelude.{Vec}
 use Rattle.std.specs.Global.{Global}
 use Rattle.std.specs.Bool.{OnFalse}
@@ -7,7 +7,7 @@ use Rattle.std.specs.FinMap as map
 use Rattle.lr_spec.specs.Told.{Told}
 use Rattle.lr_spec.specs.Rose.{Rose}
 use Rattle.lr_object.specs.declared.id.ObjectId.{ObjectId}
-use Rattle.lr_object.specs.declared.id.ObjectId.TheVariants.{Device, Cache, Node, Depot}
+use Rattle.lr_object.specs.declared.id.ObjectId.TheVariants.{Device, Cache}
 use Rattle.lr_object.specs.Kept.{Sized}
 use Rattle.lr_device.specs.declared.call.DeviceCall.{DeviceCall}
 use Rattle.lr_device.specs.declared.step.DeviceNoted.{DeviceNoted}

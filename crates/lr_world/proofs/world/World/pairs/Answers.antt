@@ -1,7 +1,7 @@
-use Rattle.std.proofs.Common.{◌≡◌, ℕ, List, Some, refl, ap, sym, subst, ◌∙◌, arith}
+use Rattle.std.proofs.Common.{ℕ, List, refl, sym, subst, ◌∙◌, arith}
 use Rattle.std.specs.Prelude.{slice_index_or}
 use Rattle.std.proofs.lemmas.Option.{slice_get-get_or}
-use Rattle.lr_world.specs.World.{seen, Part, cast_of, IsNumber}
+use Rattle.lr_world.specs.World.{seen, Part, IsNumber}
 use Rattle.lr_world.specs.Runs.{Runs, none}
 use Rattle.lr_world.proofs.Running.{runs_on, listed_more}
 use Rattle.lr_world.proofs.world.World.pairs.Goals as goal

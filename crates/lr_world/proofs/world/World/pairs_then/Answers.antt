@@ -1,6 +1,4 @@
-use Rattle.std.proofs.Common.{◌≡◌, ℕ, List, ◌++◌, Bool, true, false, refl, subst, sym}
-use Rattle.lr_world.specs.World.{seen, Part, cast_of, numbers_of}
-use Rattle.lr_world.specs.Runs.{Runs, InRounds, listed}
+use Rattle.lr_world.specs.World.{seen, cast_of, numbers_of}
 use Rattle.lr_world.proofs.Scheduled.{pairs_alone, pairs_rounds}
 use Rattle.lr_world.proofs.world.World.pairs_then.Goals as goal
 

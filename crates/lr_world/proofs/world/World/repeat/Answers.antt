@@ -1,5 +1,5 @@
-use Rattle.std.proofs.Common.{◌≡◌, ℕ, List, refl, sym, subst, ◌∙◌}
-use Rattle.lr_world.specs.World.{seen, Part, cast_of, IsNumber}
+use Rattle.std.proofs.Common.{ℕ, List, refl, subst, ◌∙◌}
+use Rattle.lr_world.specs.World.{seen}
 use Rattle.lr_world.specs.Runs.{Runs, none, more}
 use Rattle.lr_world.proofs.Running.{replicate_more}
 use Rattle.lr_world.proofs.world.World.repeat.Goals as goal

@@ -1,4 +1,4 @@
-use Rattle.std.proofs.Common.{◌≡◌, ◌+◌, ℕ, List, refl, ap, sym, subst, ◌∙◌, arith}
+use Rattle.std.proofs.Common.{◌+◌, sym, subst, arith}
 use Rattle.lr_world.specs.World.{seen}
 use Rattle.lr_world.specs.Rounding.{SoFar}
 use Rattle.lr_world.proofs.Alone.{length_stays}

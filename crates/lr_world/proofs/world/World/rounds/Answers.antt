@@ -1,6 +1,6 @@
-use Rattle.std.proofs.Common.{◌≡◌, ℕ, List, [], ◌++◌, refl, ap, sym, subst, ◌∙◌}
-use Rattle.lr_world.specs.World.{seen, Part, cast_of, numbers_of}
-use Rattle.lr_world.specs.Runs.{InRounds, Round, begun, next}
+use Rattle.std.proofs.Common.{List, [], ◌++◌, refl, subst, ◌∙◌}
+use Rattle.lr_world.specs.World.{seen, Part, numbers_of}
+use Rattle.lr_world.specs.Runs.{Round, begun, next}
 use Rattle.lr_world.proofs.world.World.rounds.Goals as goal
 
 pub loop-going-init : goal.loop-going-init

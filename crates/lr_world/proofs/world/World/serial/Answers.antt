@@ -1,10 +1,9 @@
-use Rattle.std.proofs.Common.{◌≡◌, ℕ, List, [], ◌++◌, Some, slice_get, take, refl, ap, sym, subst, ◌∙◌, arith}
+use Rattle.std.proofs.Common.{[], ◌++◌, refl, ◌∙◌, arith}
 use Rattle.std.proofs.lemmas.Option.{slice_get_within}
-use Rattle.lr_actors.specs.Actor as actor
-use Rattle.lr_world.specs.World.{seen, cast_of, numbers_of}
-use Rattle.lr_world.specs.Runs.{InTurn, begun}
+use Rattle.lr_world.specs.World.{seen}
+use Rattle.lr_world.specs.Runs.{begun}
 use Rattle.lr_world.proofs.Alone.{length_stays}
-use Rattle.lr_world.proofs.Serial.{alone_free, still_free, ended_more, turns_more, numbers_all, cast_length}
+use Rattle.lr_world.proofs.Serial.{still_free, ended_more, turns_more}
 use Rattle.lr_world.proofs.world.World.serial.Goals as goal
 
 pub loop-at-init : goal.loop-at-init

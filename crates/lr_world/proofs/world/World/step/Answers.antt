@@ -1,4 +1,4 @@
-use Rattle.std.proofs.Common.{◌≡◌, ap, sym, ◌∙◌, Some, refl}
+use Rattle.std.proofs.Common.{ap, ◌∙◌}
 use Rattle.lr_actors.specs.Actor as actor
 use Rattle.lr_world.specs.World.{seen}
 use Rattle.lr_world.proofs.Found.{tells, same_actor}

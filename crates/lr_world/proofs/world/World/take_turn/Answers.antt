@@ -1,13 +1,12 @@
 use Rattle.std.proofs.Common.{◌≡◌, ◌∙◌, ℕ, ap, sym, subst, Some, refl, slice_get}
 use Rattle.std.proofs.lemmas.Option.{slice_get-get_or}
-use Rattle.lr_actors.specs.declared.actor.ActorAction.TheVariants as action
 use Rattle.lr_actors.specs.Actor as actor
 use Rattle.lr_actors.specs.Actor.{handed, Took, Passed, Admits, is_out, over, idles}
 use Rattle.lr_actors.specs.Asked.{seen_reply}
 use Rattle.lr_replies.specs.Objects.{Calls}
-use Rattle.lr_world.specs.World.{seen, seen_of, objects_of, Keeps, Called}
+use Rattle.lr_world.specs.World.{seen, seen_of, objects_of, Keeps}
 use Rattle.std.specs.Vec.{with_item}
-use Rattle.lr_world.proofs.Taken.{ready, within, calls_now, out_now, admits_handed, event_now, over_now, idles_now, handed_none, steps_call, ended_turn, idle_turn}
+use Rattle.lr_world.proofs.Taken.{ready, within, calls_now, out_now, admits_handed, event_now, over_now, idles_now, steps_call, ended_turn, idle_turn}
 use Rattle.lr_world.proofs.world.World.take_turn.Goals as goal
 
 pub next-requires : goal.next-requires

@@ -1,5 +1,4 @@
-use Rattle.std.proofs.Common.{◌≡◌, ℕ, List, [], Some, slice_get, refl, ap, sym, ◌∙◌}
-use Rattle.lr_actors.specs.Actor as actor
+use Rattle.std.proofs.Common.{[], refl, sym, ◌∙◌}
 use Rattle.lr_world.specs.World.{seen}
 use Rattle.lr_world.specs.Runs.{begun}
 use Rattle.lr_world.proofs.Alone.{works_more, over_at, still_there, part_number, at_some}
