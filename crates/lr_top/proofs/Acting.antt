@@ -23,6 +23,7 @@ use Rattle.lr_desk.specs.Causes.{cause_of}
 use Rattle.lr_desk.specs.Ends.{IsWritten}
 use Rattle.lr_prepare.specs.declared.error.SetupError.{SetupError}
 use Rattle.lr_prepare.specs.Stopped.{IsLeft}
+use Rattle.lr_prepare.specs.Told.{ErrorsAreTold, ToldErrorsCome}
 use Rattle.lr_report.specs.Report.{report_text}
 use Rattle.lr_report.specs.declared.run.Run.{Run}
 use Rattle.lr_top.specs.declared.input.InputError.{InputError}
@@ -38,7 +39,6 @@ use Rattle.lr_top.specs.Played.{PlayedFrom, HasPlayed, Headline}
 use Rattle.lr_top.specs.Acts.{Sunk, ActsFrom, EndsFrom}
 use Rattle.lr_top.proofs.Meeting.{unread_comes, unread_exact, unread_unbegun, cause_comes, cause_exact, cause_unbegun, stopped_comes, stopped_complete, stopped_status}
 use Rattle.lr_top.proofs.Reported.{whole_front}
-use Rattle.lr_top.proofs.Whys.{left_why}
 
 -- ---- no depot was started
 
@@ -109,12 +109,12 @@ written_complete m sunk o text w rose quiet = absurd w
 
 module _ {O : Type 0} (objects : O → Option Objects) (faults : O → ℕ) (first : Seen O) (script : ScriptSeen) (sunk : Sunk) (after : O) where
   pub stopped_from : (last : Seen O) (error : SetupError) (r : RunRecord) (status : ℕ) (line : List ℕ) → last.start ≡ first.start → IsLeft first.start script.setup last.log error → status ≡ status_of (end_of error) → line ≡ line_of (end_of error)
-      → IfCommand r (λ left. (catalog : Catalog) × IsEnded objects faults last after left catalog) → MatchRun r ⊥ (λ _. ⊥) → sunk.written_after ≡ sunk.written_before → EndsFrom objects faults first script sunk after r status line
-  stopped_from last error record_of.Nothing status line same is gave says ended none kept = absurd none
-  stopped_from last error (record_of.Command left) status line same is gave says ended none kept =
+      → IfCommand r (λ left. (catalog : Catalog) × IsEnded objects faults last after left catalog) → MatchRun r ⊥ (λ _. ⊥) → sunk.written_after ≡ sunk.written_before → ErrorsAreTold → ToldErrorsCome → EndsFrom objects faults first script sunk after r status line
+  stopped_from last error record_of.Nothing status line same is gave says ended none kept told only = absurd none
+  stopped_from last error (record_of.Command left) status line same is gave says ended none kept told only =
       let here : IsLeft first.start script.setup left.log error = subst (λ (l : List LogEntry). IsLeft first.start script.setup l error) (sym ended.1.log) is in
-      (end_of error, gave, says, (record { last = last; catalog = ended.0; same = same; ended = ended.1; error = error; stopped = here; why = left_why first.start script.setup left.log error here; tells = refl }, kept))
-  stopped_from last error (record_of.Run run) status line same is gave says ended none kept = absurd none
+      (end_of error, gave, says, (record { last = last; catalog = ended.0; same = same; ended = ended.1; error = error; stopped = here; told = told first.start script.setup left.log error here; only = only first.start script.setup left.log error here; tells = refl }, kept))
+  stopped_from last error (record_of.Run run) status line same is gave says ended none kept told only = absurd none
 
   pub ran_from : (r : RunRecord) (run : Run) (status : ℕ) (line : List ℕ) → r ≡ record_of.Run run → PlayedFrom objects faults first after run → run.script ≡ script
       → (end : Outcome) × (status ≡ status_of (By end)) × (line ≡ line_of (By end)) × Written sunk end (report_text run) × (end ≡ WriteFault → Rose sunk.faults_before sunk.faults_after) → EndsFrom objects faults first script sunk after r status line
@@ -144,12 +144,12 @@ module _ {O : Type 0} (objects : O → Option Objects) (faults : O → ℕ) (fir
           )
 
       left_comes : Comes met end
-      left_comes = subst (Comes met) (sym s.tells) (stopped_comes met left.log covers_left s.error s.why)
+      left_comes = subst (Comes met) (sym s.tells) (stopped_comes met left.log covers_left s.error s.told)
 
       left_complete : SoundStoresAreUnspoiled → Completes met end
       left_complete unspoiled still unread quiet xs told script spells os t sound few =
           let l = led_left os t in
-          subst IsComplete (sym s.tells) (stopped_complete met left.log covers_left s.error s.why still (unspoiled first.start os l.0 left.log l.1 sound.1))
+          subst IsComplete (sym s.tells) (stopped_complete met left.log covers_left s.error s.told still (unspoiled first.start os l.0 left.log l.1 sound.1))
 
     acts_comes : (r : RunRecord) (end : PlayEnd) → ActsFrom objects faults first script sunk after r end → Comes met end
     acts_comes record_of.Nothing end h = absurd h
@@ -216,7 +216,7 @@ module _ {O : Type 0} (objects : O → Option Objects) (faults : O → ℕ) (fir
   pub ends_stopped : (r : RunRecord) (status : ℕ) (line : List ℕ) → EndsFrom objects faults first script sunk after r status line → IfCommand r (λ _. (status ≢ 0) × (status ≢ 5) × (sunk.written_after ≡ sunk.written_before))
   ends_stopped record_of.Nothing status line e = tt
   ends_stopped (record_of.Command left) status line (end, gave, says, (s, kept)) =
-      let n = stopped_status left.log s.error s.why in
+      let n = stopped_status left.log s.error s.told in
       let is : status ≡ status_of (end_of s.error) = gave ∙ ap status_of s.tells in
       ((λ z. n.0 (sym is ∙ z)), (λ z. n.1 (sym is ∙ z)), kept)
   ends_stopped (record_of.Run run) status line e = tt

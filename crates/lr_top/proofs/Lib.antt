@@ -6,4 +6,4 @@ mod OneWord
 mod Opened
 mod Reading
 mod Reported
-mod Whys
+mod Stops

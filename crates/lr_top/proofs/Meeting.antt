@@ -12,12 +12,14 @@ use Rattle.lr_opening.specs.Listing.{HasFewer, HasMany}
 use Rattle.lr_opening.specs.Store.{HasChunks, IsForeignKey, IsSoundStore}
 use Rattle.lr_opening.proofs.Bounded.{fewer_not_many}
 use Rattle.lr_opening.proofs.Views.{sound_store_is_not_foreign}
+use Rattle.lr_roots.specs.Names.{IsOneOf}
+use Rattle.lr_depot.specs.declared.call.DepotReply.{DepotReply}
 use Rattle.lr_depot.specs.declared.call.DepotTold.{DepotTold}
 use Rattle.lr_depot.specs.declared.call.DepotTold.TheVariants as told
 use Rattle.lr_depot.specs.Machine.{LogEntry}
 use Rattle.lr_depot.specs.Store.{Covers}
-use Rattle.lr_walk.specs.Depot.{Reply, no_image, no_root, taken, doubt, full, roots_end, spoiled, seen_reply, seen_told}
-use Rattle.lr_images.specs.Answered.{TellsReply, IsUnspoiled}
+use Rattle.lr_walk.specs.Depot.{Reply, no_image, no_root, taken, doubt, full, roots_end, fault, spoiled, seen_reply, seen_told}
+use Rattle.lr_images.specs.Answered.{IsUnspoiled}
 use Rattle.lr_script.specs.Seen.{ScriptSeen}
 use Rattle.lr_script.specs.Grammar.{Spells}
 use Rattle.lr_script.proofs.Unique.{not_both}
@@ -28,14 +30,26 @@ use Rattle.lr_desk.specs.Ends.{outcome_of, failure, IsWritten}
 use Rattle.lr_desk.proofs.Answering.{rose_by}
 use Rattle.lr_prepare.specs.declared.error.SetupError.{SetupError}
 use Rattle.lr_prepare.specs.declared.error.SetupError.TheVariants as setup
-use Rattle.lr_prepare.specs.Stopped.{Refuses}
+use Rattle.lr_prepare.specs.Stopped.{Refuses, IsFault}
+use Rattle.lr_prepare.specs.Told.{IsOfDepot, Makes}
 use Rattle.lr_top.specs.declared.input.InputError.{InputError}
 use Rattle.lr_top.specs.declared.input.InputError.TheVariants as input
 use Rattle.lr_top.specs.declared.ends.PlayEnd.{PlayEnd}
 use Rattle.lr_top.specs.declared.ends.PlayEnd.TheVariants.{By, OutsideAt, RefusedAt}
 use Rattle.lr_top.specs.Ends.{status_of}
 use Rattle.lr_top.specs.Input.{IfOutside}
-use Rattle.lr_top.specs.Top.{IsOutsideAt, Met, unread_end, at_line, end_of, Comes, TellsWhy, IsUnbegun, IsForeignEnd, IsManyEnd, IsComplete, Completes, IsExact}
+use Rattle.lr_top.specs.Top.{IsOutsideAt, Met, unread_end, at_line, end_of, Comes, IsUnbegun, IsForeignEnd, IsManyEnd, IsComplete, Completes, IsExact}
+
+-- an entry of the log has the reply that made the error
+abbrev IsTold : List LogEntry → SetupError → Type 0
+IsTold log e = IsOfDepot e → (entry : LogEntry) × IsOneOf log entry × Makes (seen_told entry.reply) e
+
+refuses : (log : List LogEntry) (n : ℕ) (reply : DepotReply) → IsTold log (setup.Refused n reply) → Refuses (seen_reply reply)
+refuses log n reply h = let t = h tt in subst Refuses (sym t.2.0) t.2.1
+
+fault_outcome : (r : Reply) → IsFault r → outcome_of r ≡ OriginFault
+fault_outcome (fault key) h = refl
+fault_outcome r h = absurd h
 
 module _ (m : Met) where
   -- ---- no script was read
@@ -138,11 +152,11 @@ module _ (m : Met) where
   refused_complete n r h = absurd h
 
   module _ (log : List LogEntry) (covers : Covers m.origin_before log m.origin_after) where
-    fault_rose : TellsWhy log setup.Fault → Rose m.origin_before m.origin_after
-    fault_rose h = rose_by m.origin_before log m.origin_after covers (h.1.0, h.1.1, ap outcome_of h.1.2)
+    fault_rose : IsTold log setup.Fault → Rose m.origin_before m.origin_after
+    fault_rose h = let t = h tt in rose_by m.origin_before log m.origin_after covers (t.0, t.1, fault_outcome (seen_told t.0.reply) t.2)
 
-    pub stopped_comes : (e : SetupError) → TellsWhy log e → Comes m (end_of e)
-    stopped_comes (setup.Refused n reply) h = refused_comes n (seen_reply reply) h.0
+    pub stopped_comes : (e : SetupError) → IsTold log e → Comes m (end_of e)
+    stopped_comes (setup.Refused n reply) h = refused_comes n (seen_reply reply) (refuses log n reply h)
     stopped_comes (setup.Sealed n) h = tt
     stopped_comes setup.Fault h = fault_rose h
     stopped_comes (setup.Spoiled key) h = tt
@@ -152,11 +166,11 @@ module _ (m : Met) where
     told_spoiled (told.Spoiled k) key is = cc
     told_spoiled t key is = absurd (cc)
 
-    pub stopped_complete : (e : SetupError) → TellsWhy log e → ¬ (Rose m.origin_before m.origin_after) → IsUnspoiled log → IsComplete (end_of e)
-    stopped_complete (setup.Refused n reply) h still clean = refused_complete n (seen_reply reply) h.0
+    pub stopped_complete : (e : SetupError) → IsTold log e → ¬ (Rose m.origin_before m.origin_after) → IsUnspoiled log → IsComplete (end_of e)
+    stopped_complete (setup.Refused n reply) h still clean = refused_complete n (seen_reply reply) (refuses log n reply h)
     stopped_complete (setup.Sealed n) h still clean = tt
     stopped_complete setup.Fault h still clean = absurd (still (fault_rose h))
-    stopped_complete (setup.Spoiled key) h still clean = absurd (clean h.0 h.1 key (told_spoiled h.0.reply key h.2))
+    stopped_complete (setup.Spoiled key) h still clean = let t = h tt in absurd (clean t.0 t.1 key (told_spoiled t.0.reply key t.2))
     stopped_complete setup.OutOfMemory h still clean = tt
 
 -- ---- statuses of plays without a run
@@ -173,8 +187,8 @@ refused_status n r h = absurd h
 other_status : (n k : ℕ) → n ≡ k → k ≢ 0 → k ≢ 5 → (n ≢ 0) × (n ≢ 5)
 other_status n k e a b = ((λ z. a (sym e ∙ z)), (λ z. b (sym e ∙ z)))
 
-pub stopped_status : (log : List LogEntry) (e : SetupError) → TellsWhy log e → (status_of (end_of e) ≢ 0) × (status_of (end_of e) ≢ 5)
-stopped_status log (setup.Refused n reply) h = other_status (status_of (at_line n (failure (outcome_of (seen_reply reply))))) 8 (refused_status n (seen_reply reply) h.0) (λ e. absurd (omega (arith, e))) (λ e. absurd (omega (arith, e)))
+pub stopped_status : (log : List LogEntry) (e : SetupError) → IsTold log e → (status_of (end_of e) ≢ 0) × (status_of (end_of e) ≢ 5)
+stopped_status log (setup.Refused n reply) h = other_status (status_of (at_line n (failure (outcome_of (seen_reply reply))))) 8 (refused_status n (seen_reply reply) (refuses log n reply h)) (λ e. absurd (omega (arith, e))) (λ e. absurd (omega (arith, e)))
 stopped_status log (setup.Sealed n) h = ((λ e. absurd (omega (arith, e))), (λ e. absurd (omega (arith, e))))
 stopped_status log setup.Fault h = ((λ e. absurd (omega (arith, e))), (λ e. absurd (omega (arith, e))))
 stopped_status log (setup.Spoiled key) h = ((λ e. absurd (omega (arith, e))), (λ e. absurd (omega (arith, e))))

@@ -8,7 +8,8 @@ use Rattle.std.proofs.lemmas.List.{length-map, map-append}
 use Rattle.std.proofs.lemmas.List.Concat.{flat_map-append}
 use Rattle.std.proofs.lemmas.Option.{slice_get-map}
 use Rattle.lr_device.specs.Held as device
-use Rattle.lr_walk.specs.Calls.{DevicePlace}
+use Rattle.lr_manifest.specs.Manifest.{ManifestFields}
+use Rattle.lr_actors.specs.declared.place.DevicePlace.{DevicePlace}
 use Rattle.lr_depot.specs.Depot.{Seen}
 use Rattle.lr_history.specs.Run.{DeviceLine}
 use Rattle.lr_script.specs.declared.script.Setup.{Setup}
@@ -18,7 +19,7 @@ use Rattle.lr_actors.specs.declared.place.Parts.{Parts}
 use Rattle.lr_actors.specs.declared.place.Context.{Context}
 use Rattle.lr_actors.specs.Places.{seen_place}
 use Rattle.lr_prepare.specs.Lines.{seen_lines, unnumbered, IsDoneAs, AreDoneAs}
-use Rattle.lr_prepare.specs.New.{new_device, place_at}
+use Rattle.lr_prepare.specs.New.{new_device, place_at, kept_manifests}
 use Rattle.lr_prepare.specs.Prepared.{IsPrepared}
 use Rattle.lr_report.specs.declared.run.OpenedDevice.{OpenedDevice}
 use Rattle.lr_top.specs.Opening.{image_opened, images_opened, IsOpenedAs, AreOpened}
@@ -133,13 +134,14 @@ module _ {O : Type 0} (script : ScriptSeen) (first : Seen O) (parts : Parts O) (
   at_of : {A B : Type 0} (f : A → B) (xs : List A) (i : ℕ) (x : A) (y : B) → slice_get xs i ≡ Some x → slice_get (map f xs) i ≡ Some y → y ≡ f x
   at_of f xs i x y a b = let e : Some (f x) ≡ Some y = sym (ap (option_map f) a) ∙ (sym (slice_get-map f xs i) ∙ b) in cc
 
-  pub have_opened : (opened : List OpenedDevice) → AreOpened (images_opened script.setup) parts.devices.items (map seen_place context.devices.items) opened → HaveOpened (devices_of p.lines) opened
+  pub have_opened : (opened : List OpenedDevice) → AreOpened (images_opened script.setup) parts.devices.items context.devices.items opened → HaveOpened (devices_of p.lines) opened
   have_opened opened h = record {
     many = h.many ∙ (ap length (sym (images_done script.setup p.lines p.are)) ∙ length-map (devices_of p.lines) (λ (d : DeviceLine). d.image));
     each = λ i o e.
         let (image, d, place, at_image, at_device, at_place, is) = h.each i o e in
         let here = from_at (λ (d : DeviceLine). d.image) (devices_of p.lines) i image (subst (λ (l : List (List ℕ)). slice_get l i ≡ Some image) (sym (images_done script.setup p.lines p.are)) at_image) in
         let device_is : d ≡ new_device here.0 = at_of new_device (devices_of p.lines) i here.0 d here.1 (subst (λ (l : List device.Seen). slice_get l i ≡ Some d) p.devices at_device) in
-        let place_is : place ≡ place_at here.0 = at_of place_at (devices_of p.lines) i here.0 place here.1 (subst (λ (l : List DevicePlace). slice_get l i ≡ Some place) places_are at_place) in
-        (here.0, here.1, record { image = is.image ∙ here.2; length = is.length ∙ ap (λ (s : device.Seen). s.capacity) device_is; names = is.names ∙ ap (λ (q : DevicePlace). q.names) place_is });
+        let kept : slice_get (kept_manifests context.devices.items) i ≡ Some (arc_value place.manifest) = slice_get-map (λ (q : DevicePlace). arc_value q.manifest) context.devices.items i ∙ ap (option_map (λ (q : DevicePlace). arc_value q.manifest)) at_place in
+        let manifest_is : arc_value place.manifest ≡ here.0.manifest = at_of (λ (d : DeviceLine). d.manifest) (devices_of p.lines) i here.0 (arc_value place.manifest) here.1 (subst (λ (l : List ManifestFields). slice_get l i ≡ Some (arc_value place.manifest)) p.manifests kept) in
+        (here.0, here.1, record { image = is.image ∙ here.2; length = is.length ∙ ap (λ (s : device.Seen). s.capacity) device_is; manifest = is.manifest ∙ manifest_is });
   }

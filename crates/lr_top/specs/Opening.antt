@@ -3,7 +3,7 @@ use Rattle.std.specs.Prelude.{◌≡◌, ℕ, List, [], ◌∷◌, length, Some,
 use Rattle.std.specs.Arc.{arc_value}
 use Rattle.std.specs.List.{flat_map}
 use Rattle.lr_device.specs.Held as device
-use Rattle.lr_walk.specs.Calls.{DevicePlace}
+use Rattle.lr_actors.specs.declared.place.DevicePlace.{DevicePlace}
 use Rattle.lr_script.specs.Seen.{SetupSeen, Host, Root, Image, Device}
 use Rattle.lr_report.specs.declared.run.OpenedDevice.{OpenedDevice}
 
@@ -18,11 +18,11 @@ image_opened (Device name host image tenant) = image ∷ []
 unfoldable pub images_opened : List (ℕ × SetupSeen) → List (List ℕ)
 images_opened setup = flat_map (λ (line : ℕ × SetupSeen). image_opened line.1) setup
 
--- the image, the bytes of the device, and the names of its chunks
+-- the image, the bytes of the device, and its manifest
 pub record IsOpenedAs (name : List ℕ) (d : device.Seen) (place : DevicePlace) (o : OpenedDevice) : Type 0 where
   pub image : o.image ≡ name
   pub length : o.length ≡ d.capacity
-  pub names : (arc_value o.manifest).names ≡ place.names
+  pub manifest : arc_value o.manifest ≡ arc_value place.manifest
 
 -- .. at the place of each
 pub record AreOpened (images : List (List ℕ)) (devices : List device.Seen) (places : List DevicePlace) (opened : List OpenedDevice) : Type 0 where

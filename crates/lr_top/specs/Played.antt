@@ -24,11 +24,11 @@ use Rattle.lr_play.specs.Played.{closing_of, IsPlayed}
 use Rattle.lr_report.specs.declared.run.Run.{Run}
 use Rattle.lr_report.specs.declared.run.OpenedDevice.{OpenedDevice}
 
--- what a device line opened: its image, its padded bytes, and the names of its chunks
+-- what a device line opened: its image, its padded bytes, and its manifest, which names its chunks
 pub record IsOpened (line : DeviceLine) (o : OpenedDevice) : Type 0 where
   pub image : o.image ≡ line.image
   pub length : o.length ≡ padded_length line.manifest.raw_len
-  pub names : (arc_value o.manifest).names ≡ line.manifest.names
+  pub manifest : arc_value o.manifest ≡ line.manifest
 
 -- .. for each device line
 pub record AreOpened (lines : List DeviceLine) (opened : List OpenedDevice) : Type 0 where

@@ -3,7 +3,7 @@ use Rattle.std.specs.Prelude.{◌≡◌, ◌⊎◌, ℕ, ◌^◌, List, [], Opti
 use Rattle.lr_spec.specs.Rose.{Rose}
 use Rattle.lr_spec.specs.Told.{Told}
 use Rattle.lr_origin.specs.Objects.{Objects}
-use Rattle.lr_origin.specs.declared.key.KeyKind.{KeyKind}
+use Rattle.lr_roots.specs.Names.{IsOneOf}
 use Rattle.lr_roots.specs.Catalog.{Seen as Catalog}
 use Rattle.lr_opening.specs.Cause.{IsRead}
 use Rattle.lr_opening.specs.Listing.{HasFewer, HasMany}
@@ -11,8 +11,7 @@ use Rattle.lr_opening.specs.Store.{IsForeignKey, IsSoundStore}
 use Rattle.lr_depot.specs.Machine.{LogEntry}
 use Rattle.lr_depot.specs.Left.{Left}
 use Rattle.lr_depot.specs.Depot.{Seen, IsStarted, IsEnded}
-use Rattle.lr_walk.specs.Depot.{seen_reply, fault, spoiled}
-use Rattle.lr_images.specs.Answered.{TellsReply}
+use Rattle.lr_walk.specs.Depot.{seen_reply, seen_told}
 use Rattle.lr_script.specs.Seen.{ScriptSeen}
 use Rattle.lr_script.specs.Grammar.{Spells, FirstOutside}
 use Rattle.lr_desk.specs.declared.outcome.Outcome.{Outcome}
@@ -21,7 +20,8 @@ use Rattle.lr_desk.specs.declared.outcome.Refusal.TheVariants.{Sealed as WrongKe
 use Rattle.lr_desk.specs.Ends.{outcome_of, failure}
 use Rattle.lr_prepare.specs.declared.error.SetupError.{SetupError}
 use Rattle.lr_prepare.specs.declared.error.SetupError.TheVariants as setup
-use Rattle.lr_prepare.specs.Stopped.{IsLeft, Refuses}
+use Rattle.lr_prepare.specs.Stopped.{IsPlain, IsLeft}
+use Rattle.lr_prepare.specs.Told.{IsOfDepot, Makes}
 use Rattle.lr_report.specs.declared.run.Run.{Run}
 use Rattle.lr_top.specs.declared.input.InputError.{InputError}
 use Rattle.lr_top.specs.declared.input.InputError.TheVariants as input
@@ -117,16 +117,9 @@ Comes m (By outcome) = ComesBy m outcome
 Comes m (OutsideAt n) = IsOutsideAt m.source n
 Comes m (RefusedAt n refusal) = ⊤
 
--- An entry of the log tells what stopped the setup, where the depot's answer did.
-abbrev pub TellsWhy : List LogEntry → SetupError → Type 0
-TellsWhy log (setup.Refused n reply) = Refuses (seen_reply reply) × TellsReply log (seen_reply reply)
-TellsWhy log (setup.Sealed n) = ⊤
-TellsWhy log setup.Fault = (key : KeyKind) × TellsReply log (fault key)
-TellsWhy log (setup.Spoiled key) = TellsReply log (spoiled key)
-TellsWhy log setup.OutOfMemory = ⊤
-
 -- The setup of a script stopped, or no memory was found before the first step of an actor: the lines in front were done, the end tells
--- what stopped the next one, and the depot ended with what is handed back.
+-- what stopped the next one, and the depot ended with what is handed back. The depot's answer stopped it exactly where an entry of the log
+-- has a refusal, a fault of the store or a spoiled key.
 pub record StoppedFrom {O : Type 0} (objects : O → Option Objects) (faults : O → ℕ) (first : Seen O) (script : ScriptSeen) (after : O) (left : Left) (end : PlayEnd) : Type 0 where
   pub last : Seen O
   pub catalog : Catalog
@@ -134,7 +127,8 @@ pub record StoppedFrom {O : Type 0} (objects : O → Option Objects) (faults : O
   pub ended : IsEnded objects faults last after left catalog
   pub error : SetupError
   pub stopped : IsLeft first.start script.setup left.log error
-  pub why : TellsWhy left.log error
+  pub told : IsOfDepot error → (e : LogEntry) × IsOneOf left.log e × Makes (seen_told e.reply) error
+  pub only : (e : LogEntry) → IsOneOf left.log e → (IsPlain (seen_told e.reply) → ⊥) → Makes (seen_told e.reply) error
   pub tells : end ≡ end_of error
 
 -- .. of a script that was read, and the depot started over the store

@@ -1,9 +1,9 @@
 //! The top call: one command of the product over a source, a sink and a store, with the headline in its contract.
 //!
 //! `input` reads a script from a source, `opening` tells what its device lines opened, `playing` plays it, and `choose` has the top call,
-//! which gives other words to the commands over a store. `ends` says how a play ends, `outcome` holds what the call gives back, `laws` that
-//! the headline holds. In
-//! `specs/`, `Played` says what a play did, and has the headline; `Top` says what is answered, and why.
+//! which gives other words to the commands over a store. `ends` says how a play ends, `outcome` holds what the call gives back, and `laws`
+//! has the headline as a law of plays. In `specs/`, `Played` says what a play did, and has the headline; `Top` says what is answered, and
+//! why, and `Acts` joins the two.
 #![tactic(auto)]
 
 mod choose;
@@ -13,6 +13,8 @@ mod laws;
 mod opening;
 mod outcome;
 mod playing;
+#[cfg(test)]
+mod tests;
 
 pub use choose::{desk, top};
 pub use ends::PlayEnd;

@@ -1,7 +1,6 @@
 //! What the device lines of a script opened.
-ghost use Rattle.std.specs.Prelude.{◌≡◌, ◌++◌, length, map, IfOk, OnOk};
+ghost use Rattle.std.specs.Prelude.{◌≡◌, ◌++◌, length, IfOk, OnOk};
 ghost use Rattle.lr_script.specs.Seen.{setup_seen};
-ghost use Rattle.lr_actors.specs.Places.{seen_place};
 ghost use Rattle.lr_prepare.specs.Lines.{seen_lines};
 ghost use Rattle.lr_top.specs.Opening.{image_opened, images_opened, IsOpenedAs, AreOpened};
 
@@ -39,7 +38,7 @@ fn images_of(alloc: Global, setup: &[(u32, Setup)]) -> Result<Vec<ImageName>, Ou
 
 // A device that was opened.
 fn open_one(image: ImageName, device: &Device, place: &DevicePlace) -> Result<OpenedDevice, OutOfMemory>
-    ensures { IfOk result (λ o. IsOpenedAs image device.now (seen_place place.now) o) }
+    ensures { IfOk result (λ o. IsOpenedAs image device.now place.now o) }
 {
     let manifest = Arc::try_clone(&place.manifest)?;
     Ok(OpenedDevice {
@@ -58,7 +57,7 @@ fn open_each(
 ) -> Result<Vec<OpenedDevice>, OutOfMemory>
     requires devices { length devices.now ≡ length images.now }
     requires places { length places.now ≡ length images.now }
-    ensures { IfOk result (λ v. AreOpened images.now devices.now (map seen_place places.now) v.items) }
+    ensures { IfOk result (λ v. AreOpened images.now devices.now places.now v.items) }
 {
     let mut opened = Vec::new(alloc);
     for at in 0..images.len() {
@@ -77,7 +76,7 @@ pub(crate) fn opening_of(
 ) -> Result<Opening, OutOfMemory>
     requires devices { length devices.now ≡ length (images_opened script.now.setup) }
     requires places { length places.now ≡ length (images_opened script.now.setup) }
-    ensures { IfOk result (λ o. AreOpened (images_opened script.now.setup) devices.now (map seen_place places.now) o.devices.items) }
+    ensures { IfOk result (λ o. AreOpened (images_opened script.now.setup) devices.now places.now o.devices.items) }
 {
     let images = images_of(alloc, &script.setup)?;
     let devices = open_each(alloc, &images, devices, places)?;

@@ -32,7 +32,7 @@ use lr_images::answers_are_told;
 use lr_io::{Sink, Source};
 use lr_origin::Origin;
 use lr_play::{Performed, Unperformed, perform};
-use lr_prepare::{Prepared, SetupError, Unprepared, prepare, scripts_fit};
+use lr_prepare::{Prepared, SetupError, Unprepared, prepare, scripts_fit, stops_are_told};
 use lr_report::{Opening, Run, report};
 use lr_script::Script;
 use std::alloc::Global;
@@ -168,6 +168,7 @@ fn act<O: Origin, W: Sink>(alloc: Global, sink: &mut W, script: Script, prepared
     requires prepared { (first : Seen O) × IsPrepared script first prepared.parts prepared.context }
     ensures begun { (first : Seen O) → IsPrepared script first prepared.parts prepared.context → EndsFrom O.objects O.faults first script (record { written_before = W.written sink.old; written_after = W.written sink.new; faults_before = W.faults sink.old; faults_after = W.faults sink.new }) result.origin result.run result.status result.line }
 {
+    stops_are_told();
     let Prepared { parts, context } = prepared;
     let Ok(opening) = opening_of(alloc, &script, &parts.devices, &context.devices) else {
         return stopped(alloc, SetupError::OutOfMemory, parts.depot);
@@ -189,6 +190,7 @@ fn begin<O: Origin, W: Sink>(alloc: Global, sink: &mut W, script: Script, depot:
     ensures begun { EndsFrom O.objects O.faults depot script (record { written_before = W.written sink.old; written_after = W.written sink.new; faults_before = W.faults sink.old; faults_after = W.faults sink.new }) result.origin result.run result.status result.line }
 {
     scripts_fit();
+    stops_are_told();
     match prepare(alloc, &script, depot) {
         Ok(prepared) => act(alloc, sink, script, prepared),
         Err(Unprepared { error, depot }) => stopped(alloc, error, depot),

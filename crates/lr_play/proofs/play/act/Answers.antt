@@ -28,5 +28,5 @@ returns-clause-never_falls g c =
     let began : g.O.Origin.faults (seen c.new-world.result).depot.origin ≡ g.O.Origin.faults c.args.parts.depot.origin = ap (λ (w : Seen _). g.O.Origin.faults w.depot.origin) c.new-world.ensures.seen in
     let ended : g.O.Origin.faults c.end-parts.result.0.depot.origin ≡ g.O.Origin.faults (seen c.run.new.self).depot.origin = ap (λ (w : Seen _). g.O.Origin.faults w.depot.origin) c.end-parts.ensures in
     let rises : g.O.Origin.faults (seen c.new-world.result).depot.origin ≤ g.O.Origin.faults (seen c.run.new.self).depot.origin =
-    run_rises g.O.Origin.objects g.O.Origin.faults (seen c.new-world.result) c.run.ensures.run.0 (seen c.run.new.self) c.run.ensures.run.1 in
+    run_rises g.O.Origin.objects g.O.Origin.faults (seen c.new-world.result) c.run.ensures.ran.0 (seen c.run.new.self) c.run.ensures.ran.2 in
     omega (arith, began, ended, rises)

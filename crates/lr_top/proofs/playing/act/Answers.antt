@@ -1,9 +1,8 @@
-use Rattle.std.proofs.Common.{◌≡◌, List, length, map, refl, sym, ap, subst, ◌∙◌}
+use Rattle.std.proofs.Common.{◌≡◌, List, length, refl, sym, ap, subst, ◌∙◌}
 use Rattle.lr_device.specs.Held as device
 use Rattle.lr_depot.specs.Depot.{IsEnded}
 use Rattle.lr_actors.specs.declared.place.DevicePlace.{DevicePlace}
 use Rattle.lr_actors.specs.declared.place.Parts.{Parts}
-use Rattle.lr_actors.specs.Places.{seen_place}
 use Rattle.lr_prepare.specs.declared.error.SetupError.TheVariants.{OutOfMemory}
 use Rattle.lr_prepare.specs.Stopped.{IsLeft}
 use Rattle.lr_report.specs.declared.run.Opening.{Opening}
@@ -11,7 +10,7 @@ use Rattle.lr_top.specs.Opening.{images_opened, AreOpened}
 use Rattle.lr_top.proofs.Opened.{devices_many, places_many, have_opened}
 use Rattle.lr_top.proofs.Headlines.{played_from}
 use Rattle.lr_top.proofs.Acting.{stopped_from, ran_from}
-use Rattle.lr_top.proofs.Whys.{all_done}
+use Rattle.lr_top.proofs.Stops.{all_done}
 use Rattle.lr_top.proofs.playing.act.Goals as goal
 
 pub opening_of-requires-clause-devices : goal.opening_of-requires-clause-devices
@@ -26,7 +25,7 @@ returns-in_default g c = record {
       stopped_from g.O.Origin.objects g.O.Origin.faults first c.args.script
       (record { written_before = g.W.Sink.written c.args.sink.now; written_after = g.W.Sink.written c.args.sink.now; faults_before = g.W.Sink.faults c.args.sink.now; faults_after = g.W.Sink.faults c.args.sink.now })
       c.stopped.result.origin c.args.prepared.parts.depot OutOfMemory c.stopped.result.run c.stopped.result.status c.stopped.result.line p.start
-      (all_done c.args.script first c.args.prepared.parts c.args.prepared.context p) c.stopped.ensures.status c.stopped.ensures.line c.stopped.ensures.ended c.stopped.ensures.run refl;
+      (all_done c.args.script first c.args.prepared.parts c.args.prepared.context p) c.stopped.ensures.status c.stopped.ensures.line c.stopped.ensures.ended c.stopped.ensures.run refl c.stops_are_told.ensures.told c.stops_are_told.ensures.only;
 }
 
 pub returns-in-Err : goal.returns-in-Err
@@ -38,7 +37,7 @@ returns-in-Err g c = record {
       c.stopped-in-Err.result.origin c.in-Err.field-0.parts.depot OutOfMemory c.stopped-in-Err.result.run c.stopped-in-Err.result.status c.stopped-in-Err.result.line
       (ap (λ q. q.depot.start) same ∙ p.start)
       (subst (λ q. IsLeft first.start c.args.script.setup q.depot.log OutOfMemory) (sym same) (all_done c.args.script first c.args.prepared.parts c.args.prepared.context p))
-      c.stopped-in-Err.ensures.status c.stopped-in-Err.ensures.line c.stopped-in-Err.ensures.ended c.stopped-in-Err.ensures.run refl;
+      c.stopped-in-Err.ensures.status c.stopped-in-Err.ensures.line c.stopped-in-Err.ensures.ended c.stopped-in-Err.ensures.run refl c.stops_are_told.ensures.told c.stops_are_told.ensures.only;
 }
 
 pub returns-in-Ok-perform : goal.returns-in-Ok-perform
@@ -50,9 +49,9 @@ returns-in-Ok-perform g c = record {
       let run = c.close-run.result.0 in
       let script = c.args.script in
       let opened = c.in-Ok.ensures in
-      let of_parts = subst (λ (l : List device.Seen). AreOpened (images_opened script.setup) l (map seen_place c.deref-2.result.now) c.in-Ok.opening.devices.items) c.deref.ensures.value opened in
-      let of_places = subst (λ (l : List DevicePlace). AreOpened (images_opened script.setup) parts.devices.items (map seen_place l) c.in-Ok.opening.devices.items) c.deref-2.ensures.value of_parts in
-      let of_run = subst (λ (o : Opening). AreOpened (images_opened script.setup) parts.devices.items (map seen_place context.devices.items) o.devices.items) (sym c.close-run.ensures.opening) of_places in
+      let of_parts = subst (λ (l : List device.Seen). AreOpened (images_opened script.setup) l c.deref-2.result.now c.in-Ok.opening.devices.items) c.deref.ensures.value opened in
+      let of_places = subst (λ (l : List DevicePlace). AreOpened (images_opened script.setup) parts.devices.items l c.in-Ok.opening.devices.items) c.deref-2.ensures.value of_parts in
+      let of_run = subst (λ (o : Opening). AreOpened (images_opened script.setup) parts.devices.items context.devices.items o.devices.items) (sym c.close-run.ensures.opening) of_places in
       let ended = subst (λ o. IsEnded g.O.Origin.objects g.O.Origin.faults left.depot o run.depot run.catalog) (sym c.reported.ensures.origin) c.close-run.ensures.ended in
       ran_from g.O.Origin.objects g.O.Origin.faults first script
       (record { written_before = g.W.Sink.written c.args.sink.now; written_after = g.W.Sink.written c.reported.new.sink; faults_before = g.W.Sink.faults c.args.sink.now; faults_after = g.W.Sink.faults c.reported.new.sink })
