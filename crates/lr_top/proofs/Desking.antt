@@ -1,5 +1,6 @@
 -- the record of a command
 use Rattle.std.proofs.Common.{◌≡◌, List, [], Bool, true, false, IsTrue, refl, sym, ap, ◌∙◌, subst}
+use Rattle.std.specs.Prelude.{⊤}
 use Rattle.lr_report.specs.declared.run.Run.{Run}
 use Rattle.lr_depot.specs.Left.{Left}
 use Rattle.lr_top.specs.declared.outcome.RunRecord.{RunRecord}
@@ -23,3 +24,7 @@ if_command false r left P t n p = subst (λ q. IfCommand q P) (sym (n refl)) tt
 pub if_nothing : (b : Bool) (r : RunRecord) (left : Left) (A : Type 0) → (IsTrue b → r ≡ record_of.Command left) → (b ≡ false → r ≡ record_of.Nothing) → (b ≡ false → A) → MatchRun r A (λ _. ⊥)
 if_nothing true r left A t n p = subst (λ q. MatchRun q A (λ _. ⊥)) (sym (t refl)) tt
 if_nothing false r left A t n p = subst (λ q. MatchRun q A (λ _. ⊥)) (sym (n refl)) (p refl)
+
+pub run_or : (b : Bool) (r : RunRecord) (left : Left) (A : Type 0) → (IsTrue b → r ≡ record_of.Command left) → (b ≡ false → r ≡ record_of.Nothing) → (b ≡ false → A) → MatchRun r A (λ _. ⊤)
+run_or true r left A t n p = subst (λ q. MatchRun q A (λ _. ⊤)) (sym (t refl)) tt
+run_or false r left A t n p = subst (λ q. MatchRun q A (λ _. ⊤)) (sym (n refl)) (p refl)

@@ -1,9 +1,9 @@
-ghost use Rattle.std.specs.Prelude.{◌≡◌, ◌≢◌, ◌⊎◌, ◌↔◌, [], ◌∷◌, ℕ, IsTrue, false, map, codes, string_bytes};
+ghost use Rattle.std.specs.Prelude.{◌≡◌, ◌≢◌, ◌≤◌, ◌⊎◌, ◌↔◌, [], ◌∷◌, ℕ, IsTrue, false, map, codes, string_bytes, ⊤};
 ghost use Rattle.lr_spec.specs.Told.{Told};
 ghost use Rattle.lr_io.specs.Streams.{Appends, AppendsFront};
 ghost use Rattle.lr_script.specs.Grammar.{FirstOutside};
 ghost use Rattle.lr_desk.specs.Words.{AreOfCreation};
-ghost use Rattle.lr_desk.specs.Causes.{IsAnswered, HasCommanded};
+ghost use Rattle.lr_desk.specs.Causes.{IsUnstarted, IsAnswered, HasCommanded};
 ghost use Rattle.lr_report.specs.Report.{report_text};
 ghost use Rattle.lr_top.specs.Played.{HasPlayed, Headline};
 ghost use Rattle.lr_top.specs.Top.{IsReadAs, MatchRun, IfRun, IfCommand, log_of, IsPlayedAs};
@@ -52,6 +52,10 @@ pub fn desk<O: Origin, I: Source, W: Sink>(
     ensures answered { IsAnswered (record { words = map string_bytes words.now; objects = O.objects origin; source = I.left source.old; origin_before = O.faults origin; origin_after = O.faults result.origin; source_before = I.faults source.old; source_after = I.faults source.new; sink_before = W.faults sink.old; sink_after = W.faults sink.new; log = log_of result.run }) result.status result.line }
     ensures commanded { IfCommand result.run (λ left. HasCommanded O.objects O.faults (map string_bytes words.now) origin (I.left source.old) (I.left source.new) (W.written sink.old) result.origin (W.written sink.new) left result.status) }
     ensures recorded { MatchRun result.run ((result.status ≢ 0) × (result.status ≢ 5) × (W.written sink.new ≡ W.written sink.old)) (λ _. ⊥) }
+    // Without a depot the words are no command's, or the store wasn't opened, and its objects are as they were.
+    ensures why { MatchRun result.run (IsUnstarted (map string_bytes words.now) (O.objects origin) (O.faults origin) (O.faults result.origin) result.status) (λ _. ⊤) }
+    ensures kept { MatchRun result.run (O.objects result.origin ≡ O.objects origin) (λ _. ⊤) }
+    ensures never_falls { O.faults origin ≤ O.faults result.origin }
     // Only `create` reads the source.
     ensures unread { ¬ (AreOfCreation (map string_bytes words.now)) → source.new ≡ source.old }
 {
@@ -101,7 +105,10 @@ pub fn top<O: Origin, I: Source, W: Sink>(
     ensures served { IfRun result.run (λ run. (p : HasPlayed O.objects O.faults origin result.origin run) × Headline O.objects O.faults origin result.origin run p) }
     ensures reported { IfRun result.run (λ run. result.status ≡ 0 → Appends (W.written sink.old) (report_text run) (W.written sink.new)) }
     ensures front { IfRun result.run (λ run. AppendsFront (W.written sink.old) (report_text run) (W.written sink.new)) }
-    ensures unstarted { MatchRun result.run ((result.status ≢ 0) × (result.status ≢ 5) × (W.written sink.new ≡ W.written sink.old)) (λ _. Unit {0}) }
+    ensures unstarted { MatchRun result.run ((result.status ≢ 0) × (result.status ≢ 5) × (W.written sink.new ≡ W.written sink.old)) (λ _. ⊤) }
+    ensures why { map string_bytes words.now ≢ codes "play" ∷ [] → MatchRun result.run (IsUnstarted (map string_bytes words.now) (O.objects origin) (O.faults origin) (O.faults result.origin) result.status) (λ _. ⊤) }
+    ensures kept { MatchRun result.run (O.objects result.origin ≡ O.objects origin) (λ _. ⊤) }
+    ensures never_falls { O.faults origin ≤ O.faults result.origin }
     ensures stopped { map string_bytes words.now ≡ codes "play" ∷ [] → IfCommand result.run (λ _. (result.status ≢ 0) × (result.status ≢ 5) × (W.written sink.new ≡ W.written sink.old)) }
 {
     if is_play(words) {

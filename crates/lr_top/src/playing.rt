@@ -1,5 +1,5 @@
 //! Scripts that are played.
-ghost use Rattle.std.specs.Prelude.{◌≡◌, ◌≢◌, ◌⊎◌, ℕ, [], ⊤};
+ghost use Rattle.std.specs.Prelude.{◌≡◌, ◌≢◌, ◌≤◌, ◌⊎◌, ℕ, [], ⊤};
 ghost use Rattle.lr_spec.specs.Rose.{Rose};
 ghost use Rattle.lr_spec.specs.Told.{Told};
 ghost use Rattle.lr_io.specs.Streams.{Appends, AppendsFront};
@@ -103,6 +103,7 @@ fn stopped<O: Origin>(alloc: Global, error: SetupError, depot: Depot<O>) -> Outc
     ensures line { result.line ≡ line_of (end_of error) }
     ensures ended { IfCommand result.run (λ left. (catalog : Catalog) × IsEnded O.objects O.faults depot result.origin left catalog) }
     ensures run { MatchRun result.run ⊥ (λ _. ⊥) }
+    ensures never_falls { O.faults depot.origin ≤ O.faults result.origin }
 {
     let end = of_setup(alloc, error);
     let (origin, log, _catalog) = depot.end();
@@ -117,6 +118,7 @@ fn close<O: Origin>(alloc: Global, script: Script, opening: Opening, performed: 
     ensures trails { result.0.trails ≡ performed.trails }
     ensures ended { IsEnded O.objects O.faults performed.parts.depot result.1 result.0.depot result.0.catalog }
     ensures joined { result.0.joined.items ≡ [] }
+    ensures never_falls { O.faults performed.parts.depot.origin ≤ O.faults result.1 }
 {
     let Performed { parts, trails } = performed;
     let Parts {
@@ -167,6 +169,7 @@ fn act<O: Origin, W: Sink>(alloc: Global, sink: &mut W, script: Script, prepared
     requires started { IsStart prepared.parts.depot.start }
     requires prepared { (first : Seen O) × IsPrepared script first prepared.parts prepared.context }
     ensures begun { (first : Seen O) → IsPrepared script first prepared.parts prepared.context → EndsFrom O.objects O.faults first script (record { written_before = W.written sink.old; written_after = W.written sink.new; faults_before = W.faults sink.old; faults_after = W.faults sink.new }) result.origin result.run result.status result.line }
+    ensures never_falls { O.faults prepared.parts.depot.origin ≤ O.faults result.origin }
 {
     stops_are_told();
     let Prepared { parts, context } = prepared;
@@ -188,6 +191,7 @@ fn begin<O: Origin, W: Sink>(alloc: Global, sink: &mut W, script: Script, depot:
     requires started { IsStart depot.start }
     requires fresh { depot.log ≡ [] }
     ensures begun { EndsFrom O.objects O.faults depot script (record { written_before = W.written sink.old; written_after = W.written sink.new; faults_before = W.faults sink.old; faults_after = W.faults sink.new }) result.origin result.run result.status result.line }
+    ensures never_falls { O.faults depot.origin ≤ O.faults result.origin }
 {
     scripts_fit();
     stops_are_told();
@@ -209,6 +213,8 @@ pub fn play<O: Origin, I: Source, W: Sink>(alloc: Global, source: &mut I, sink: 
     ensures reported { IfRun result.run (λ run. result.status ≡ 0 → Appends (W.written sink.old) (report_text run) (W.written sink.new)) }
     ensures front { IfRun result.run (λ run. AppendsFront (W.written sink.old) (report_text run) (W.written sink.new)) }
     ensures unstarted { MatchRun result.run ((result.status ≢ 0) × (result.status ≢ 5) × (W.written sink.new ≡ W.written sink.old)) (λ _. ⊤) }
+    ensures kept { MatchRun result.run (O.objects result.origin ≡ O.objects origin) (λ _. ⊤) }
+    ensures never_falls { O.faults origin ≤ O.faults result.origin }
     ensures stopped { IfCommand result.run (λ _. (result.status ≢ 0) × (result.status ≢ 5) × (W.written sink.new ≡ W.written sink.old)) }
 {
     plays_have_the_headline::<O>();

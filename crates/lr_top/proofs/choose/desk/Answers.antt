@@ -2,7 +2,7 @@ use Rattle.std.proofs.Common.{Global, map, ap, sym, subst, List}
 use Rattle.std.specs.String.{string_bytes}
 use Rattle.lr_depot.specs.Machine.{LogEntry}
 use Rattle.lr_desk.specs.Causes.{Met, IsAnswered, HasCommanded}
-use Rattle.lr_top.proofs.Desking.{log_same, if_command, if_nothing}
+use Rattle.lr_top.proofs.Desking.{log_same, if_command, if_nothing, run_or}
 use Rattle.lr_top.proofs.choose.desk.Goals as goal
 
 pub returns-clause-answered : goal.returns-clause-answered
@@ -33,3 +33,13 @@ returns-clause-recorded g c =
     let d = c.commands-done in
     if_nothing d.result.started c.recorded-run.result d.result.log _ c.recorded-run.ensures.started c.recorded-run.ensures.nothing
     (λ e. let u = d.ensures.unstarted e in (u.4, u.5, ap g.W.Sink.written u.2))
+
+pub returns-clause-why : goal.returns-clause-why
+returns-clause-why g c =
+    let d = c.commands-done in
+    run_or d.result.started c.recorded-run.result d.result.log _ c.recorded-run.ensures.started c.recorded-run.ensures.nothing d.ensures.why
+
+pub returns-clause-kept : goal.returns-clause-kept
+returns-clause-kept g c =
+    let d = c.commands-done in
+    run_or d.result.started c.recorded-run.result d.result.log _ c.recorded-run.ensures.started c.recorded-run.ensures.nothing (λ e. (d.ensures.unstarted e).1)

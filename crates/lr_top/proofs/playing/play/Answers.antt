@@ -67,3 +67,8 @@ pub returns-in-Ok-start-clause-stopped : goal.returns-in-Ok-start-clause-stopped
 returns-in-Ok-start-clause-stopped g c =
     ends_stopped g.O.Origin.objects g.O.Origin.faults c.in-Ok-start.depot c.in-Ok.script
     (record { written_before = g.W.Sink.written c.args.sink.now; written_after = g.W.Sink.written c.begin.new.sink; faults_before = g.W.Sink.faults c.args.sink.now; faults_after = g.W.Sink.faults c.begin.new.sink }) c.begin.result.origin c.begin.result.run c.begin.result.status c.begin.result.line c.begin.ensures.begun
+
+pub returns-in-Ok-start-clause-kept : goal.returns-in-Ok-start-clause-kept
+returns-in-Ok-start-clause-kept g c =
+    ends_started g.O.Origin.objects g.O.Origin.faults c.in-Ok-start.depot c.in-Ok.script
+    (record { written_before = g.W.Sink.written c.args.sink.now; written_after = g.W.Sink.written c.begin.new.sink; faults_before = g.W.Sink.faults c.args.sink.now; faults_after = g.W.Sink.faults c.begin.new.sink }) c.begin.result.origin c.begin.result.run c.begin.result.status c.begin.result.line _ c.begin.ensures.begun
