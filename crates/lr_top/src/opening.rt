@@ -37,7 +37,11 @@ fn images_of(alloc: Global, setup: &[(u32, Setup)]) -> Result<Vec<ImageName>, Ou
 }
 
 // A device that was opened.
-fn open_one(image: ImageName, device: &Device, place: &DevicePlace) -> Result<OpenedDevice, OutOfMemory>
+fn open_one(
+    image: ImageName,
+    device: &Device,
+    place: &DevicePlace,
+) -> Result<OpenedDevice, OutOfMemory>
     ensures { IfOk result (λ o. IsOpenedAs image device.now place.now o) }
 {
     let manifest = Arc::try_clone(&place.manifest)?;

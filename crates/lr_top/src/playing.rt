@@ -94,7 +94,11 @@ fn unstarted<O: Origin>(error: StartError<O>) -> Outcome<O>
     ensures origin { result.origin ≡ error.origin }
 {
     let StartError { cause, origin } = error;
-    ends(PlayEnd::By(outcome_of_cause(cause)), RunRecord::Nothing, origin)
+    ends(
+        PlayEnd::By(outcome_of_cause(cause)),
+        RunRecord::Nothing,
+        origin,
+    )
 }
 
 // The play stopped before its actors were begun.
@@ -111,7 +115,12 @@ fn stopped<O: Origin>(alloc: Global, error: SetupError, depot: Depot<O>) -> Outc
 }
 
 // The run that is handed back, and the store.
-fn close<O: Origin>(alloc: Global, script: Script, opening: Opening, performed: Performed<O>) -> (Run, O)
+fn close<O: Origin>(
+    alloc: Global,
+    script: Script,
+    opening: Opening,
+    performed: Performed<O>,
+) -> (Run, O)
     ensures script { result.0.script ≡ script }
     ensures opening { result.0.opening ≡ opening }
     ensures parts { (result.0.devices ≡ performed.parts.devices) × (result.0.caches ≡ performed.parts.caches) × (result.0.nodes ≡ performed.parts.nodes) }
@@ -164,7 +173,12 @@ fn reported<O: Origin, W: Sink>(alloc: Global, sink: &mut W, run: Run, origin: O
 }
 
 // Plays the actors of a script whose setup lines were done.
-fn act<O: Origin, W: Sink>(alloc: Global, sink: &mut W, script: Script, prepared: Prepared<O>) -> Outcome<O>
+fn act<O: Origin, W: Sink>(
+    alloc: Global,
+    sink: &mut W,
+    script: Script,
+    prepared: Prepared<O>,
+) -> Outcome<O>
     requires within { IsWithin script }
     requires started { IsStart prepared.parts.depot.start }
     requires prepared { (first : Seen O) × IsPrepared script first prepared.parts prepared.context }
@@ -186,7 +200,12 @@ fn act<O: Origin, W: Sink>(alloc: Global, sink: &mut W, script: Script, prepared
 }
 
 // Does the setup lines of a script and plays its actors.
-fn begin<O: Origin, W: Sink>(alloc: Global, sink: &mut W, script: Script, depot: Depot<O>) -> Outcome<O>
+fn begin<O: Origin, W: Sink>(
+    alloc: Global,
+    sink: &mut W,
+    script: Script,
+    depot: Depot<O>,
+) -> Outcome<O>
     requires within { IsWithin script }
     requires started { IsStart depot.start }
     requires fresh { depot.log ≡ [] }
@@ -205,7 +224,12 @@ fn begin<O: Origin, W: Sink>(alloc: Global, sink: &mut W, script: Script, depot:
 ///
 /// The record is a run exactly where the actors were begun, and then the status is 0, 5 or 7. Every call returns, for every source,
 /// sink and store.
-pub fn play<O: Origin, I: Source, W: Sink>(alloc: Global, source: &mut I, sink: &mut W, origin: O) -> Outcome<O>
+pub fn play<O: Origin, I: Source, W: Sink>(
+    alloc: Global,
+    source: &mut I,
+    sink: &mut W,
+    origin: O,
+) -> Outcome<O>
     ensures answered { IsPlayedAs O.objects O.faults origin result.origin (λ script. IsReadAs (I.left source.old) script (I.left source.new)) (record { objects = O.objects origin; source = I.left source.old; origin_before = O.faults origin; origin_after = O.faults result.origin; source_before = I.faults source.old; source_after = I.faults source.new; sink_before = W.faults sink.old; sink_after = W.faults sink.new }) result.run result.status result.line }
     ensures only { Told (I.left source.old) (λ xs. (n : ℕ) → FirstOutside xs n → (result.status ≡ 3) ⊎ ((result.status ≡ 4) ⊎ (result.status ≡ 7))) }
     ensures script { IfRun result.run (λ run. IsReadAs (I.left source.old) run.script (I.left source.new)) }

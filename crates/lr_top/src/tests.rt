@@ -60,13 +60,7 @@ const ROWS: &[Row] = &[
         "",
         b"device d z 0\np read 0 512 range\nactor p ended\n1 range\ndepot\nfetched p 0\nroot 1 active images 1 chunks 0\n",
     ),
-    (
-        "empty-input",
-        b"",
-        3,
-        "script line 1",
-        b"",
-    ),
+    ("empty-input", b"", 3, "script line 1", b""),
     (
         "equal-chunks",
         b"script 1\nroot 1111111111111111111111111111111111111111111111111111111111111111\nimage a aaaaaaaaaaaaaaaaaaaaaaaaaaaaaaaaaaaaaaaaaaaaaaaaaaaaaaaaaaaaaaaa 5000 bytes 1x41\nimage b bbbbbbbbbbbbbbbbbbbbbbbbbbbbbbbbbbbbbbbbbbbbbbbbbbbbbbbbbbbbbbbb 4096 bytes 1x41\nroot 2222222222222222222222222222222222222222222222222222222222222222\nimage c aaaaaaaaaaaaaaaaaaaaaaaaaaaaaaaaaaaaaaaaaaaaaaaaaaaaaaaaaaaaaaaa 5000 bytes 1x41\n",
@@ -217,9 +211,11 @@ const ROWS: &[Row] = &[
 ];
 
 // A script of one read, and its report.
-const ONE_READ: &[u8] = b"script 1\nroot 1111111111111111111111111111111111111111111111111111111111111111\nhost h 4\nimage a aaaaaaaaaaaaaaaaaaaaaaaaaaaaaaaaaaaaaaaaaaaaaaaaaaaaaaaaaaaaaaaa 5000 bytes 1x41 1x42\ndevice d h a aaaaaaaaaaaaaaaaaaaaaaaaaaaaaaaaaaaaaaaaaaaaaaaaaaaaaaaaaaaaaaaa\nactor p\nread d 0 512\n";
+const ONE_READ: &[u8] =
+    b"script 1\nroot 1111111111111111111111111111111111111111111111111111111111111111\nhost h 4\nimage a aaaaaaaaaaaaaaaaaaaaaaaaaaaaaaaaaaaaaaaaaaaaaaaaaaaaaaaaaaaaaaaa 5000 bytes 1x41 1x42\ndevice d h a aaaaaaaaaaaaaaaaaaaaaaaaaaaaaaaaaaaaaaaaaaaaaaaaaaaaaaaaaaaaaaaa\nactor p\nread d 0 512\n";
 
-const ITS_REPORT: &[u8] = b"device d a 8192\np read 0 512 1x41 1x42 510x00\nactor p ended\n1 done\ndepot\nfetched p 1\nroot 1 active images 1 chunks 1\n";
+const ITS_REPORT: &[u8] =
+    b"device d a 8192\np read 0 512 1x41 1x42 510x00\nactor p ended\n1 done\ndepot\nfetched p 1\nroot 1 active images 1 chunks 1\n";
 
 // What was answered, and what was written.
 #[derive(Drop)]
@@ -310,7 +306,10 @@ fn faults_of_the_store(rt: HostRuntime) -> Result<(), Fail> {
             let answer = done(rt.alloc(), "play", ONE_READ, None, None, origin)?;
             assert!(rt; answer.status == status, "{calls}");
             assert!(rt; answer.line.as_slice() == line.as_bytes(), "{calls}");
-            assert!(rt; (answer.written.as_slice() == ITS_REPORT) == (calls == 5), "{calls}");
+            assert!(rt;
+                (answer.written.as_slice() == ITS_REPORT) == (calls == 5),
+                "{calls}"
+            );
         }
     }
     Ok(())

@@ -8,16 +8,32 @@ use Rattle.lr_top.proofs.playing.play.Goals as goal
 pub returns-in-Err-clause-answered : goal.returns-in-Err-clause-answered
 returns-in-Err-clause-answered g c =
     unread_played g.O.Origin.objects g.O.Origin.faults c.args.origin c.ends.result.origin (λ script. IsReadAs (g.I.Source.left c.args.source.now) script (g.I.Source.left c.read_script.new.source))
-    (record { objects = g.O.Origin.objects c.args.origin; source = g.I.Source.left c.args.source.now; origin_before = g.O.Origin.faults c.args.origin; origin_after = g.O.Origin.faults c.ends.result.origin;
-        source_before = g.I.Source.faults c.args.source.now; source_after = g.I.Source.faults c.read_script.new.source; sink_before = g.W.Sink.faults c.args.sink.now; sink_after = g.W.Sink.faults c.args.sink.now })
+    (record {
+      objects = g.O.Origin.objects c.args.origin;
+      source = g.I.Source.left c.args.source.now;
+      origin_before = g.O.Origin.faults c.args.origin;
+      origin_after = g.O.Origin.faults c.ends.result.origin;
+      source_before = g.I.Source.faults c.args.source.now;
+      source_after = g.I.Source.faults c.read_script.new.source;
+      sink_before = g.W.Sink.faults c.args.sink.now;
+      sink_after = g.W.Sink.faults c.args.sink.now;
+    })
     c.ends.result.run c.ends.result.status c.ends.result.line c.ends.ensures.run c.in-Err.error (c.ends.ensures.status ∙ ap status_of c.of_input.ensures) (c.ends.ensures.line ∙ ap line_of c.of_input.ensures) c.in-Err.ensures.outside
     (λ is. c.in-Err.ensures.cause (ap (λ e. Err e) is))
 
 pub returns-in-Err-start-clause-answered : goal.returns-in-Err-start-clause-answered
 returns-in-Err-start-clause-answered g c =
     cause_played g.O.Origin.objects g.O.Origin.faults c.args.origin c.unstarted.result.origin (λ script. IsReadAs (g.I.Source.left c.args.source.now) script (g.I.Source.left c.read_script.new.source))
-    (record { objects = g.O.Origin.objects c.args.origin; source = g.I.Source.left c.args.source.now; origin_before = g.O.Origin.faults c.args.origin; origin_after = g.O.Origin.faults c.unstarted.result.origin;
-        source_before = g.I.Source.faults c.args.source.now; source_after = g.I.Source.faults c.read_script.new.source; sink_before = g.W.Sink.faults c.args.sink.now; sink_after = g.W.Sink.faults c.args.sink.now })
+    (record {
+      objects = g.O.Origin.objects c.args.origin;
+      source = g.I.Source.left c.args.source.now;
+      origin_before = g.O.Origin.faults c.args.origin;
+      origin_after = g.O.Origin.faults c.unstarted.result.origin;
+      source_before = g.I.Source.faults c.args.source.now;
+      source_after = g.I.Source.faults c.read_script.new.source;
+      sink_before = g.W.Sink.faults c.args.sink.now;
+      sink_after = g.W.Sink.faults c.args.sink.now;
+    })
     c.unstarted.result.run c.unstarted.result.status c.unstarted.result.line c.unstarted.ensures.run c.in-Err-start.error.cause refl c.unstarted.ensures.status c.unstarted.ensures.line
     (subst (λ o. IsCause (g.O.Origin.objects c.args.origin) (g.O.Origin.faults c.args.origin) (g.O.Origin.faults o) c.in-Err-start.error.cause) (sym c.unstarted.ensures.origin) c.in-Err-start.ensures.cause)
 
