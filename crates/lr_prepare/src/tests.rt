@@ -4,7 +4,7 @@ ghost use Rattle.std.specs.Prelude.{◌≡◌};
 use crate::{Prepared, SetupError, prepare, scripts_fit};
 use lr_depot::{Depot, DepotReply};
 use lr_origin::{FuseOrigin, MemOrigin, Origin};
-use lr_script::Script;
+use lr_script::{Script, scripts_are_within};
 use std::alloc::Global;
 use std::test::Fail;
 
@@ -98,6 +98,7 @@ fn prepares<O: Origin + Drop>(alloc: Global, origin: O, text: &[u8]) -> Result<E
     let Ok(depot) = Depot::start(alloc, origin) else {
         return Ok(End::Stopped(0, "no depot"));
     };
+    scripts_are_within();
     scripts_fit();
     match prepare(alloc, &script, depot) {
         Ok(prepared) => Ok(ready(&prepared)),
