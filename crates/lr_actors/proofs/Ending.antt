@@ -137,6 +137,7 @@ crashed s old mid new is crash f e = rw e (record {
     now = (refl, f.path, omega arith);
     stage = tt;
   };
+  state = refl;
   out = refl;
   reaps = λ q. refl;
   made = f.made;

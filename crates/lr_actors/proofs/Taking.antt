@@ -45,7 +45,7 @@ use Rattle.lr_actors.specs.Tally.{Has, IsSized, KeepsSize}
 use Rattle.lr_actors.specs.Book.{IsBook, Noted, Finished, HasRoom, SameBook}
 use Rattle.lr_actors.specs.Actor.{IsWithin, IsCall, AreEnded, FitsCrash, IsUnderWay, object_called, GrowsBy}
 use Rattle.lr_actors.specs.Actor as actor
-use Rattle.lr_actors.specs.Body.{context_of, hosts_of, jobs_of, is_busy, is_removal, object_asked, IsSetting, HasEnded, Next, StandsForSome, IsGoing, IsWorking, ahead, Prepares, IsCutAt, Crashes, EndsJob, IsSweep, IsNextCall, GoesOn, steps_of, Writes, Steps, Takes}
+use Rattle.lr_actors.specs.Body.{context_of, hosts_of, jobs_of, is_busy, is_removal, object_asked, IsSetting, HasEnded, Next, StandsForSome, IsGoing, IsWorking, ahead, Prepares, IsCutAt, Crashes, EndsJob, IsSweep, IsNextCall, Comes, GoesOn, steps_of, Writes, Steps, Takes}
 use Rattle.lr_actors.proofs.Ended.{job_ends}
 use Rattle.lr_actors.proofs.UnderWay.{cut_walk, removal_sweeps, sweep_last, sweep_stops, asked_within, under_way, held}
 use Rattle.lr_actors.proofs.Keeping.{finished_stands, ended_walk, adds_some, written_stands}
@@ -80,6 +80,7 @@ crash_goes s old new r st c removed next k = record {
   steps = k.steps;
   left = omega (arith, k.left);
   stands = λ lists stands at. k.stands lists stands (cut_at s lists old next.0 r next.1 next.2.under at);
+  goes = λ steps stands. inl k.state;
 }
 
 pub memory_goes : (s : Setting) (old mid new : Book) (r : Running) (st : Stage) (c : ActorCall) → Next s old (λ (j : Job). IsNextCall (context_of s) (hosts_of s) j r c true) → SameBook old mid → EndsJob s mid Memory new st → GoesOn s old r new st
@@ -91,6 +92,7 @@ memory_goes s old mid new r st c next e k = record {
   steps = k.steps ∙ ap (λ (t : _). t.steps) e.trail;
   left = let l = rw e.trail at k.left in omega (arith, l);
   stands = λ lists stands at. k.stands lists at.0 (stands_as s lists old mid e stands) (rw e.path at.1) (next_same s old mid (λ (j : Job). WalksJob (context_of s) j at.0 Memory) e (next.0, next.1, next.2.stops refl at.0 at.2));
+  goes = λ steps stands. inr (inr (next.0, next.1, (Memory, next.2.stops refl steps stands)));
 }
 
 pub works_go : (s : Setting) (b : Book) (r : Running) (c : ActorCall) (removed : Bool) → IsSetting s → HasEnded s b → FitsCrash s.crash Unfinished b.made → Next s b (λ (j : Job). IsNextCall (context_of s) (hosts_of s) j r c removed)
@@ -103,6 +105,7 @@ works_go s b r c removed is h crash next some room = record {
   steps = refl;
   left = omega arith;
   stands = λ lists stands at. (stands, at);
+  goes = λ steps stands. inr (inl (refl, stands));
 }
 
 pub goes_as : (s : Setting) (old mid new : Book) (r : Running) (st : Stage) → SameBook old mid → GoesOn s mid r new st → GoesOn s old r new st
@@ -114,6 +117,7 @@ goes_as s old mid new r st e k = record {
   steps = k.steps ∙ ap (λ (t : _). t.steps) e.trail;
   left = rw (← e.trail) k.left;
   stands = λ lists stands at. k.stands lists (stands_as s lists old mid e stands) (at_as lists r old mid e at);
+  goes = λ steps stands. rw (← e.trail) (k.goes steps stands);
 }
 
 pub sweep_room : (context : Context) (hosts : ℕ) (job : Job) (r : Running) (c : ActorCall) (b : Book) → IsNextCall context hosts job r c true → HasRoom 1 b → HasRoom (steps_left r) b
@@ -145,6 +149,7 @@ out_goes s old new r after st out k = record {
   steps = k.steps;
   left = rw (← out.left) k.left;
   stands = λ lists stands at. k.stands lists stands (at.0, at.1, out.stands at.0 at.2, out.knows at.0 at.3);
+  goes = λ steps stands. subst (λ (t : Task). Comes s old t steps new st) out.task (k.goes steps (out.stands steps stands));
 }
 
 pub end_answer : (s : Setting) (b : Book) (r : Running) (answer : Answer) → Next s b (λ (j : Job). IsGoing (context_of s) j r) → StandsForSome r → ((steps : List Step) → StandsFor r steps → Walk (task_of r) steps answer) → IsEnd answer
@@ -159,6 +164,7 @@ end_goes s old new r answer st going ends k = record {
   steps = k.steps;
   left = omega (arith, k.left);
   stands = λ lists stands at. k.stands lists at.0 stands at.1 (going.0, going.1, going.2.task at.0 answer (ends at.0 at.2));
+  goes = λ steps stands. inr (inr (going.0, going.1, (answer, going.2.task steps answer (ends steps stands))));
 }
 
 pub going_lt : (s : Setting) (b : Book) (P : Job → Type 0) → Next s b P → length b.trail.results.items < vec_len s.jobs
@@ -340,4 +346,5 @@ taken s old mid new r after reply st k g = record {
   steps = g.steps ∙ k.steps;
   nears = nears_on r after reply (ahead s new st (length old.trail.results.items + 1)) _ k.went.nears (rw (← k.results) g.left);
   stands = λ lists later more adds grows stands at. let b = k.stands lists later more adds grows stands at in g.stands later b.0 b.1;
+  goes = λ steps more stands adds. subst (λ (t : Task). Comes s old t (steps ++ more) new st) k.went.task (rw (← k.results) (g.goes (steps ++ more) (k.went.stands steps more adds stands)));
 }

@@ -94,6 +94,7 @@ took_job s b new w st reply h k = record {
   steps = rw h.now.0 k.steps;
   made = sym k.whole.fits.is.made ∙ (k.made ∙ (ap (λ (n : ℕ). n + steps_of reply) h.fits.is.made ∙ ap (λ (n : ℕ). (steps_in b.trail.results.items + length b.path.items) + n) (sym (adds_is w.job reply))));
   stands = λ lists later gains stands. k.stands lists later gains.0 gains.1 gains.2 stands.0 stands.1;
+  goes = λ steps more stands adds. k.goes steps more stands adds;
   nears = near_of reply _ _ _ (ap (λ (n : ℕ). steps_left w.job + n) (ahead_same s new b st (Works w) (length b.trail.results.items + 1))) k.nears;
 }
 
@@ -242,6 +243,7 @@ took_by s b made out reply true e w new = record {
   reaps = (w.now.0, reaps_next (seen_with s b (Reaps (made + 1) false)) (made + 1) (nat_lt (made + 1) (reap_count (context_of s) (hosts_of s))) refl (lt-ltb (made + 1) (reap_count (context_of s) (hosts_of s)) new.now.2));
   steps = rw w.now.0 refl;
   made = omega arith;
+  goes = tt;
   stands = λ lists later gains stands.
       reaped_as (seen_with s b (Reaps made out)) (seen_with s b (Reaps (made + 1) false)) later (made + 1) (made + 1) refl refl refl refl refl
       (reaped_more (seen_with s b (Reaps made out)) lists later made reply gains.0 w.now.2 gains.1 gains.2 stands);
@@ -254,6 +256,7 @@ took_by s b made out reply false e w new = record {
   reaps = (w.now.0, reaps_last (seen_with s b Over) (made + 1) (nat_lt (made + 1) (reap_count (context_of s) (hosts_of s))) refl (le-ltb (made + 1) (reap_count (context_of s) (hosts_of s)) (let ge : length (context_of s).devices + hosts_of s ≤ made = ltb-false made (length (context_of s).devices + hosts_of s) e in omega arith)));
   steps = rw w.now.0 refl;
   made = omega arith;
+  goes = tt;
   stands = λ lists later gains stands.
       let ge : length (context_of s).devices + hosts_of s ≤ made = ltb-false made (length (context_of s).devices + hosts_of s) e in
       let last : made + 1 ≡ reap_count (context_of s) (hosts_of s) = omega (arith, ge, w.now.2) in

@@ -4,6 +4,7 @@ use Rattle.std.specs.List.{AllByRecursion}
 use Rattle.lr_spec.specs.Rose.{next_count}
 use Rattle.lr_object.specs.declared.id.ObjectId.{ObjectId}
 use Rattle.lr_object.specs.declared.id.ObjectId.TheVariants.{Device, Cache, Node, Depot}
+use Rattle.lr_walk.specs.declared.trail.Answer.{Answer}
 use Rattle.lr_walk.specs.declared.trail.Answer.TheVariants.{NoChunk, Unbegun}
 use Rattle.lr_walk.specs.declared.trail.JobResult.{JobResult}
 use Rattle.lr_walk.specs.Stands.{IsFront}
@@ -25,7 +26,7 @@ use Rattle.lr_actors.specs.declared.actor.ActorAction.TheVariants as action
 use Rattle.lr_actors.specs.declared.running.Running.{Running}
 use Rattle.lr_actors.specs.Asked.{Asked, a_call, a_commit, no_call, HandsCall, MayCall, Adds}
 use Rattle.lr_actors.specs.Running as running
-use Rattle.lr_actors.specs.Running.{task_of, asked, is_ready, IsAtHome, steps_left}
+use Rattle.lr_actors.specs.Running.{Task, task_of, asked, is_ready, IsAtHome, steps_left}
 use Rattle.lr_actors.specs.Jobs.{Job, evicts, loses, closes, WalksJob, bound_of}
 use Rattle.lr_actors.specs.Begun.{IsContext, IsJob, IsTask, IsTaskOf, AtDevice}
 use Rattle.lr_actors.specs.Records.{HasTrail}
@@ -347,6 +348,19 @@ Nears (by_cache (caches.busy holder)) old new = new ≤ old
 Nears (by_depot (depots.removed key)) old new = new ≤ old
 Nears reply old new = new + 1 ≤ old
 
+-- a job of this task is under way, and stands for these steps
+abbrev pub HasMade : Task → List Step → Now → Type 0
+HasMade task steps (works r) = (task_of r ≡ task) × running.StandsFor r steps
+HasMade task steps now = ⊥
+
+-- The job under way goes on, with the step of its call and the reply behind it, or it has ended with a walk of just these steps, or the
+-- actor has crashed.
+abbrev pub GoesOn : Now → Seen → Reply → Seen → Type 0
+GoesOn (works r) old reply new =
+    (steps more : List Step) → running.StandsFor r steps → Adds (asked r) reply more
+    → (new.state ≡ Crashed) ⊎ (HasMade (task_of r) (steps ++ more) new.now ⊎ NextJob old (λ job. (answer : Answer) × WalksJob old.context job (steps ++ more) answer))
+GoesOn now old reply new = ⊤
+
 -- Its reaps are made one after another, until it has ended.
 abbrev pub reaps_from : Seen → ℕ → Now
 reaps_from a made = if nat_lt made (reap_count a.context a.hosts) then reaps made else over
@@ -364,6 +378,7 @@ pub record Took (old : Seen) (reply : Reply) (new : Seen) : Type 0 where
   pub steps : new.steps ≡ counted old.state old.steps
   pub made : steps_made new ≡ steps_made old + adds_one old.now reply
   pub stands : (lists after : Lists) → Gains old reply lists after → StandsFor old lists → StandsFor new after
+  pub goes : GoesOn old.now old reply new
   pub nears : Nears reply (left old) (left new)
   pub reaps : ReapsOn old.now new
 

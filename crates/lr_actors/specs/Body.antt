@@ -35,7 +35,7 @@ use Rattle.lr_actors.specs.Records.{HasWalk}
 use Rattle.lr_actors.specs.Accounts.{Stands, StandsAt}
 use Rattle.lr_actors.specs.Tally.{IsSized, KeepsSize}
 use Rattle.lr_actors.specs.Book.{account_of, did_at, IsBook, HasRoom}
-use Rattle.lr_actors.specs.Actor.{Now, works, idles, reaps, over, Seen, AreHosted, MayBeGiven, StandsNow, AreEnded, AreCutOnce, FitsState, FitsCrash, IsUnderWay, FitsNow, left, jobs_ahead, IsWithin, reap_count, object_called, ClosesFor, is_out, Hands, GrowsBy, Nears}
+use Rattle.lr_actors.specs.Actor.{Now, works, idles, reaps, over, Seen, AreHosted, MayBeGiven, StandsNow, AreEnded, AreCutOnce, FitsState, FitsCrash, IsUnderWay, FitsNow, left, jobs_ahead, IsWithin, reap_count, object_called, ClosesFor, is_out, Hands, GrowsBy, HasMade, Nears}
 use Rattle.lr_actors.specs.Trailed.{jobs_seen}
 
 -- ---- what contracts see
@@ -224,9 +224,15 @@ pub record AddsUnbegun (s : Setting) (old new : Book) : Type 0 where
   pub made : new.made ≡ old.made
   pub stands : (lists : Lists) → StandsBook s lists old → StandsBook s lists new
 
+-- The job of this task goes on, with these steps, or it has ended with a walk of just these, or the actor has crashed.
+abbrev pub Comes : Setting → Book → Task → List Step → Book → Stage → Type 0
+Comes s old task steps new st =
+    (new.trail.state ≡ Crashed) ⊎ (HasMade task steps (now_of st) ⊎ Next s old (λ job. (answer : Answer) × WalksJob (context_of s) job steps answer))
+
 -- It crashed.
 pub record Crashes (s : Setting) (old new : Book) (st : Stage) : Type 0 where
   pub whole : IsWhole s new st
+  pub state : new.trail.state ≡ Crashed
   pub out : out_of st ≡ false
   pub reaps : CrashesFirst new st
   pub made : new.made ≡ old.made
@@ -269,6 +275,7 @@ pub record GoesOn (s : Setting) (old : Book) (r : Running) (new : Book) (st : St
   pub steps : new.trail.steps ≡ old.trail.steps
   pub left : left (seen_with s new st) ≤ steps_left r + ahead s new st (length old.trail.results.items + 1)
   pub stands : (lists : Lists) → StandsBook s lists old → StandsAt lists old.path.items r → StandsStage s lists new st
+  pub goes : (steps : List Step) → StandsFor r steps → Comes s old (task_of r) steps new st
 
 -- how many steps a reply adds
 abbrev pub steps_of : Reply → ℕ
@@ -310,6 +317,7 @@ pub record Takes (s : Setting) (old : Book) (r : Running) (reply : Reply) (new :
   pub steps : new.trail.steps ≡ next_count old.trail.steps
   pub nears : Nears reply (steps_left r + ahead s new st (length old.trail.results.items + 1)) (left (seen_with s new st))
   pub stands : (lists later : Lists) (more : List Step) → Adds (asked r) reply more → GrowsBy more lists later → StandsBook s lists old → StandsAt lists old.path.items r → StandsStage s later new st
+  pub goes : (steps more : List Step) → StandsFor r steps → Adds (asked r) reply more → Comes s old (task_of r) (steps ++ more) new st
 
 -- the result of the job under way was added: it was cut, or not begun where its path is empty
 pub record CutsOne (s : Setting) (old new : Book) : Type 0 where

@@ -16,6 +16,7 @@ mod error;
 mod format;
 mod image;
 mod jobs;
+mod memory;
 mod script;
 mod stripe;
 mod task;

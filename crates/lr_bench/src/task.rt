@@ -9,6 +9,7 @@ use crate::error::BenchError;
 use crate::format::{Chunking, Printing, Spelling};
 use crate::image::{Creating, Restoring};
 use crate::jobs::Reading;
+use crate::memory::{Filled, Nothing};
 use crate::script::{Parsing, Playing, Reporting};
 use crate::stripe::{Encoding, Rebuilding};
 use crate::turn::{Calling, call_four, call_one};
@@ -93,6 +94,10 @@ pub enum Kind {
     AfterAll,
     Move,
     Collect,
+    /// No overlay, and one of 10 GiB with pages one after another or one in each chunk.
+    NoOverlay,
+    FillAll,
+    FillApart,
     Call,
     /// Calls of one shared node by so many threads.
     Turns(usize),
@@ -134,6 +139,9 @@ pub fn run<T: Threads + Wait + Sync>(
         Kind::AfterAll => measure::<CallsAfter<16_384>>(rt, size),
         Kind::Move => measure::<Moving>(rt, size),
         Kind::Collect => measure::<Collecting>(rt, size),
+        Kind::NoOverlay => measure::<Nothing>(rt, size),
+        Kind::FillAll => measure::<Filled<1>>(rt, size),
+        Kind::FillApart => measure::<Filled<128>>(rt, size),
         Kind::Call => measure::<Calling>(rt, size),
         Kind::Turns(count) => call_one(rt, threads, count, size),
         Kind::Crossing(count) => call_four(rt, threads, count, size),
@@ -149,8 +157,9 @@ pub struct Task {
 }
 
 /// The tasks. The sizes of `script`, `report` and `play` count reads, that of `jobs` counts jobs, those of `sha256`, `copy`,
-/// `ctr`, `gcm`, `create` and `cat` bytes, those of `seal` to `rebuild` chunks, those of `move` and `collect` images, and the others calls.
-pub static TASKS: [Task; 34] = [
+/// `ctr`, `gcm`, `create` and `cat` bytes, those of `seal` to `rebuild` chunks, those of `move` and `collect` images, those of
+/// `memory` pages, and the others calls.
+pub static TASKS: [Task; 38] = [
     Task {
         name: "script",
         kind: Kind::Parse,
@@ -318,6 +327,30 @@ pub static TASKS: [Task; 34] = [
         kind: Kind::Collect,
         small: 2,
         large: 1_000,
+    },
+    Task {
+        name: "memory_none",
+        kind: Kind::NoOverlay,
+        small: 0,
+        large: 0,
+    },
+    Task {
+        name: "memory_new",
+        kind: Kind::FillAll,
+        small: 0,
+        large: 0,
+    },
+    Task {
+        name: "memory_apart",
+        kind: Kind::FillApart,
+        small: 2,
+        large: 20_480,
+    },
+    Task {
+        name: "memory_all",
+        kind: Kind::FillAll,
+        small: 2,
+        large: 16_384,
     },
     Task {
         name: "call",

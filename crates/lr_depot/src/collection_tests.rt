@@ -1,3 +1,4 @@
+//! Tests of migrations, withdrawals and collection by hand.
 use crate::tests::{A_IN_ROOT, Ask, CHUNK_IN_ROOT, Step, fails_once, first_other, start};
 use lr_origin::{MemOrigin, Op};
 use std::test::Fail;

@@ -1,3 +1,4 @@
+//! What a caller's session is for, as the depot keeps it.
 use lr_manifest::Manifest;
 use lr_origin::ImageName;
 use std::sync::Arc;

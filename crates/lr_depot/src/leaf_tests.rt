@@ -1,3 +1,4 @@
+//! Tests of the depot's parts: doubts, numbers, puts and images.
 ghost use Rattle.std.specs.Prelude.{◌≡◌, ◌^◌, ℕ, IsTrue, OnOk};
 ghost use Rattle.std.specs.FinMap as map;
 ghost use Rattle.lr_origin.specs.declared.key.KeyKind.{KeyKind as Kind};

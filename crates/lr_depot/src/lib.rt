@@ -3,8 +3,9 @@
 //! `call` has the calls and replies, `numbered` the leases and sessions by their numbers, `doubts` the questions about
 //! puts in doubt, `put` one put with all that it does to the store and to what is known, `images` the count of image
 //! names. `kernel` holds all but the store and the log, with the calls that the store isn't asked for; `asking` has
-//! those that it is, `serving` picks the one of a call. `depot` is the object with its start and end, `log` what is left of it, `laws` what holds of every
-//! depot. In `specs/`, `Machine` has the table of calls and `Store` what each does to the store.
+//! those that it is, `serving` picks the one of a call. `depot` is the object with its start and end, `log` what is left
+//! of it, `laws` what holds of every depot. In `specs/`, `Machine` has the table of calls and `Store` what each does to
+//! the store.
 #![tactic(auto)]
 
 mod asking;

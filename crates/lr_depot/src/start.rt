@@ -1,3 +1,4 @@
+//! What a depot was started with, as a name for contracts.
 use std::marker::Model;
 
 /// What a depot was started with: the objects that the store told, how often it had failed, the view, and the first

@@ -1,3 +1,4 @@
+//! Tests of the depot's calls by hand: creations and leases, over a store whose calls fail.
 ghost use Rattle.std.specs.Prelude.{◌≡◌};
 
 use crate::{Depot, DepotCall, DepotNoted, DepotReply, DepotTold, StartCause, StartError};

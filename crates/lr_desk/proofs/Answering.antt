@@ -1,6 +1,7 @@
 -- the answer of a command
 use Rattle.std.proofs.Common.{◌≡◌, ◌≢◌, ◌≤◌, ◌+◌, ◌^◌, ℕ, List, [], ◌∷◌, ◌++◌, Option, Some, None, Bool, true, false, cond, refl, ap, subst, sym, ◌∙◌, inl, inr, arith}
 use Rattle.std.specs.Prelude.{◌⊎◌}
+use Rattle.std.proofs.lemmas.List.Elements.{All-nil}
 use Rattle.lr_spec.specs.Rose.{Rose}
 use Rattle.lr_spec.specs.Told.{Told}
 use Rattle.lr_origin.specs.Objects.{Objects}
@@ -23,7 +24,7 @@ use Rattle.lr_depot.specs.declared.call.DepotTold.{DepotTold}
 use Rattle.lr_depot.specs.declared.call.DepotTold.TheVariants as told
 use Rattle.lr_depot.specs.Begun.{Start}
 use Rattle.lr_depot.specs.Machine.{LogEntry, DepotStep, Enters, IsTold, after_entry, run}
-use Rattle.lr_depot.specs.Store.{StoreStep, LeadsTo, tells_fault, is_fault, fault_count, Covers}
+use Rattle.lr_depot.specs.Store.{StoreStep, IsRun, LeadsTo, tells_fault, is_fault, fault_count, Covers}
 use Rattle.lr_depot.specs.Left.{Left}
 use Rattle.lr_roots.specs.Catalog.{Seen as Catalog}
 use Rattle.lr_depot.specs.Depot.{Seen, IsStart, LedTo, first_state, state, IsStarted, IsEnded}
@@ -36,6 +37,7 @@ use Rattle.lr_desk.specs.declared.outcome.Outcome.{Outcome}
 use Rattle.lr_desk.specs.declared.outcome.Outcome.TheVariants.{Done, Usage, ReadFault, WriteFault, OriginFault, Memory, Refused, Foreign, Spoiled, TooMany}
 use Rattle.lr_desk.specs.declared.words.Command.{Command}
 use Rattle.lr_desk.specs.declared.words.Command.TheVariants as command
+use Rattle.lr_desk.specs.Alone.{ComesAlone, AreAlone, CommandsComeAlone}
 use Rattle.lr_desk.specs.Words.{AreWords, IsCommand, words_of}
 use Rattle.lr_desk.specs.Outcome.{status_of, line_of}
 use Rattle.lr_desk.specs.Ends.{outcome_of, Setting, setting, HasWalked, IsWritten, IsFinish, HasRun, IsWalkOutcome}
@@ -299,6 +301,10 @@ module _ (m : Met) (c : Command) (s : Setting) (before after : Option (List ℕ)
 
 -- ---- from its start to its end
 
+-- no entry, no reply
+pub none_alone : (log : List LogEntry) → log ≡ [] → AreAlone log
+none_alone log none = subst AreAlone (sym none) (All-nil (λ (e : LogEntry). ComesAlone (seen_told e.reply)))
+
 count_cons : (x : LogEntry) (xs : List LogEntry) (b : Bool) → is_fault x ≡ b → fault_count (x ∷ xs) ≡ cond b 1 0 + fault_count xs
 count_cons x xs true is = rw is (omega arith)
 count_cons x xs false is = rw is (omega arith)
@@ -385,3 +391,10 @@ module _ {O : Type 0} (objects : O → Option Objects) (faults : O → ℕ) (ori
     ran = ran_left;
     images = λ done. images_left law c (subst (λ o. HasRun c (setting objects first source source_left) left.log written written_after o) done ran_left);
   }
+
+-- the log of a command that ran
+pub commanded_alone : {O : Type 0} {objects : O → Option Objects} {faults : O → ℕ} {words : List (List ℕ)} {origin after : O} {source source_left written written_after : Option (List ℕ)} {left : Left} {status : ℕ}
+    → HasCommanded objects faults words origin source source_left written after written_after left status → CommandsComeAlone → AreAlone left.log
+commanded_alone {O} {objects} {faults} {words} {origin} {after} {source} {source_left} {written} {written_after} {left} {status} h law =
+    let legal = subst (λ (s : Start). IsRun (first_state s) left.log) h.same (subst (λ g. IsRun (first_state h.last.start) g) (sym h.ended.log) h.ended.legal) in
+    law h.command (setting objects h.first source source_left) left.log h.ran.0 h.ran.1 h.started.start legal h.ran.2

@@ -1,3 +1,4 @@
+mod Alone
 pub mod Answering
 mod Carrying
 mod Causing
@@ -5,7 +6,10 @@ mod Commanding
 mod Doing
 mod Gathering
 mod Imaging
+mod Keeping
 mod Logs
+mod Meeting
+mod Sharing
 mod Telling
 mod Viewing
 mod Walking

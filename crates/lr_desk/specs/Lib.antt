@@ -1,7 +1,9 @@
+pub mod Alone
 pub mod Causes
 pub mod Drive
 pub mod Ends
 pub mod Made
 pub mod Outcome
 pub mod Roots
+pub mod Shared
 pub mod Words

@@ -14,7 +14,7 @@ mod words;
 
 pub use collecting::collect;
 pub use ends::outcome_of_refusal;
-pub use laws::{done_images, logs_tell_of_outcomes};
+pub use laws::{commands_come_alone, done_images, equal_chunks_share_a_key, logs_tell_of_outcomes};
 pub use moving::migrate;
 pub use outcome::{Outcome, Refusal};
 pub use roots::view_text;

@@ -8,11 +8,12 @@ ghost use Rattle.lr_desk.specs.declared.words.Command.TheVariants as command;
 ghost use Rattle.lr_desk.specs.Outcome.{status_of, line_of};
 ghost use Rattle.lr_desk.specs.Causes.{cause_of, IsAnswered, IsUnstarted, HasCommanded};
 ghost use Rattle.lr_desk.specs.Words.{AreOfCreation, words_of};
+ghost use Rattle.lr_desk.specs.Alone.{AreAlone};
 ghost use Rattle.lr_desk.specs.Ends.{Collected, Moved, Made, WasRead, setting, HasWalked, HasRun, Yields, IsWritten};
 
 use crate::collecting::collect;
 use crate::ends::{of_collection, of_creation, of_error, of_migration};
-use crate::laws::done_images;
+use crate::laws::{commands_come_alone, done_images};
 use crate::moving::migrate;
 use crate::outcome::Outcome;
 use crate::roots::view_text;
@@ -252,6 +253,8 @@ pub fn commands<O: Origin, I: Source, W: Sink>(
 ) -> Done<O>
     ensures answered { IsAnswered (record { words = map string_bytes words.now; objects = O.objects origin; source = I.left source.old; origin_before = O.faults origin; origin_after = O.faults result.origin; source_before = I.faults source.old; source_after = I.faults source.new; sink_before = W.faults sink.old; sink_after = W.faults sink.new; log = result.log.log }) result.status result.line }
     ensures commanded { IsTrue result.started → HasCommanded O.objects O.faults (map string_bytes words.now) origin (I.left source.old) (I.left source.new) (W.written sink.old) result.origin (W.written sink.new) result.log result.status }
+    // No reply tells that a session, a lease or a chunk isn't there, or of another's work.
+    ensures alone { AreAlone result.log.log }
     // Without a depot nothing was done.
     ensures unstarted { result.started ≡ false → (result.log.log ≡ []) × (O.objects result.origin ≡ O.objects origin) × (sink.new ≡ sink.old) × (source.new ≡ source.old) × (result.status ≢ 0) × (result.status ≢ 5) }
     ensures why { result.started ≡ false → IsUnstarted (map string_bytes words.now) (O.objects origin) (O.faults origin) (O.faults result.origin) result.status }
@@ -267,6 +270,7 @@ pub fn commands<O: Origin, I: Source, W: Sink>(
         Err(error) => return failed(alloc, error),
     };
     done_images();
+    commands_come_alone();
     let outcome = run(alloc, &mut depot, source, sink, command);
     let (origin, log, _catalog) = depot.end();
     Done {

@@ -109,6 +109,22 @@ const IMAGE: &[Row] = &[
     ),
 ];
 
+// Images of equal bytes, of two tenants: one chunk in each root.
+const EQUAL: &[Row] = &[
+    (ROTATE, 0, "", "root 1\n"),
+    (CREATE, 0, "", "created 1\n"),
+    (&["create", "b", OTHER], 0, "", "created 1\n"),
+    (&["rotate", SECOND], 0, "", "root 2\n"),
+    (&["create", "c", TENANT], 0, "", "created 2\n"),
+    (
+        ROOTS,
+        0,
+        "",
+        "root 1 retired images 2 chunks 1\nroot 2 active images 1 chunks 1\nimage a root 1 bytes 2 served\nimage b root 1 bytes 2 served\nimage c root 2 bytes 2 served\n",
+    ),
+    (&["cat", "b", OTHER], 0, "", "AB"),
+];
+
 // Each command that starts a depot, with its status on the store of an image whose chunk has another body.
 const STARTS: &[(&[&str], u8)] = &[
     (ROTATE, 0),
@@ -179,7 +195,7 @@ fn store_after(alloc: Global, commands: usize) -> Result<MemOrigin, Fail> {
 #[test]
 fn commands_in_turn(rt: HostRuntime) -> Result<(), Fail> {
     let alloc = rt.alloc();
-    for table in [TURNS, IMAGE] {
+    for table in [TURNS, IMAGE, EQUAL] {
         let mut origin = MemOrigin::new(alloc);
         for (command, status, line, text) in table {
             let (done, written) = does(alloc, origin, *command)?;

@@ -140,7 +140,7 @@ fetch_ends s lease index reply d n left = absurd d
 pub fetch_memory : (lease index left : ℕ) → Fetches lease (suc left) index (step (fetches lease index) memory ∷ []) with_memory
 fetch_memory lease index left = inl (memory, step (fetches lease index) memory, [], refl, (refl, tt), (refl, refl))
 
-short_fetches : (lease left index : ℕ) → Fetches lease left index [] with_memory
+pub short_fetches : (lease left index : ℕ) → Fetches lease left index [] with_memory
 short_fetches lease zero index = inr (refl, refl)
 short_fetches lease (suc left) index = inr (refl, refl)
 

@@ -9,11 +9,11 @@ ghost use Rattle.lr_images.specs.Created.{IsCreation, IsUnderWay};
 
 use crate::created::{Created, answer_of};
 use crate::drive::{leave, put_last, put_piece, run_on};
-use crate::pieces::{CHUNK, Read, read_piece};
+use crate::pieces::{Read, read_piece};
 use lr_creator::{Create, CreateEnd};
 use lr_depot::Depot;
 use lr_io::Source;
-use lr_manifest::TenantKey;
+use lr_manifest::{CHUNK, TenantKey};
 use lr_origin::{ImageName, Origin};
 use std::alloc::Global;
 

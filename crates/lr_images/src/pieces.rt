@@ -4,10 +4,8 @@ ghost use Rattle.lr_spec.specs.Rose.{Rose};
 ghost use Rattle.lr_images.specs.Created.{IsNextPiece};
 
 use lr_io::{ReadError, Source, read_up_to};
+use lr_manifest::CHUNK;
 use std::alloc::Global;
-
-/// Bytes of a chunk.
-pub(crate) const CHUNK: usize = 524_288;
 
 /// The most bytes of an image.
 pub(crate) const LIMIT: usize = 67_108_864;

@@ -15,9 +15,9 @@ ghost use Rattle.lr_images.specs.Drive.{Calls};
 ghost use Rattle.lr_images.specs.Cat.{Cats, ReadsLease, Closes, Fetches, end_of, error_end, IsFetched, IsRead, IsReadOf, IsRefusal, IsStoreAnswer, IsLeaseAnswer, IsUnsealed, IsStoreFault, Keeps, HasTexts};
 ghost use Rattle.lr_images.specs.declared.reading.CatError.TheVariants.{OutOfMemory as NoMemory};
 
-use lr_convergent::Piece;
+use lr_aes::AesKey;
 use lr_depot::{Depot, DepotCall, DepotReply};
-use lr_manifest::{Chunk, ChunkKey, Manifest, TenantKey};
+use lr_manifest::{CHUNK, Chunk, ChunkKey, Manifest, TenantKey};
 use lr_object::Object;
 use lr_origin::{ImageName, Origin};
 use lr_seal::{KeyTable, UnsealError, is_denoted_by_tag};
@@ -72,19 +72,22 @@ fn fetch<O: Origin>(
     }
 }
 
+// Decrypts the bytes of a chunk in place.
+fn decrypt(key: &ChunkKey, text: &mut [u8])
+    ensures { text.new ≡ chunk_text key.now.bytes text.old }
+{
+    AesKey::new256(&key.bytes).ctr_xor(&[0u8; 16], text)
+}
+
 // Appends the plaintext of a chunk.
-fn append(
-    alloc: Global,
-    index: u32,
-    chunk: Arc<Chunk>,
-    key: &ChunkKey,
-    bytes: &mut Vec<u8>,
-) -> Result<(), CatError>
+fn append(chunk: Arc<Chunk>, key: &ChunkKey, bytes: &mut Vec<u8>) -> Result<(), CatError>
     ensures added { IfOk result (λ _. bytes.new.items ≡ bytes.old.items ++ chunk_text key.now.bytes (arc_value chunk)) }
     ensures memory { IfErr result (λ e. e ≡ NoMemory) }
 {
-    let piece = Piece::make(alloc, index, chunk, key)?;
-    bytes.extend_from_slice(piece.plain())?;
+    let at = bytes.len();
+    bytes.extend_from_slice(chunk.bytes())?;
+    let (_, tail) = bytes.split_at_mut(at);
+    decrypt(key, tail);
     Ok(())
 }
 
@@ -104,7 +107,7 @@ fn add_chunk<O: Origin>(
     ensures fault { IfErr result (λ e. IsStoreFault e → Rose (O.faults depot.old.origin) (O.faults depot.new.origin)) }
 {
     match fetch(alloc, depot, lease, index) {
-        Ok(chunk) => append(alloc, index, chunk, key, bytes),
+        Ok(chunk) => append(chunk, key, bytes),
         Err(error) => Err(error),
     }
 }
@@ -133,7 +136,7 @@ fn fetch_all<O: Origin>(
     ensures answer { IfErr result (λ e. (image : List ℕ) (m : ManifestFields) → map.get (state depot.old.start depot.old.log).desk.leases lease ≡ Some (image, m) → length keys.now ≡ length m.names → IsStoreAnswer e) }
     ensures fault { IfErr result (λ e. IsStoreFault e → Rose (O.faults depot.old.origin) (O.faults depot.new.origin)) }
 {
-    let mut bytes = Vec::new(alloc);
+    let mut bytes = Vec::with_capacity(alloc, count as usize * CHUNK)?;
     for index in 0..count {
         let key = key_at(keys, index);
         match add_chunk(alloc, depot, lease, index, key, &mut bytes) {

@@ -1,3 +1,4 @@
 pub mod Over
 pub mod Places
 pub mod Seen
+mod CellsMemory

@@ -9,6 +9,7 @@ ghost use Rattle.std.specs.Prelude.{◌≡◌, ℕ, ◌/◌, ◌%◌, ◌*◌, �
 ghost use Rattle.lr_overlay.specs.Pages.{HasLength, HasPlaces, KeepsPlaces, is_placed, is_written, fitted};
 ghost use Rattle.lr_overlay.specs.Directory.{place_of, leaves_of};
 
+mod cells;
 mod leaf;
 #[cfg(test)]
 mod tests;
@@ -25,6 +26,7 @@ const PAGES: u32 = 128;
 /// Which pages are written, and their bytes.
 #[derive(Drop)]
 pub struct Overlay {
+    alloc: Global,
     count: u32,
     chunks: Vec<Leaf>,
 }
@@ -47,13 +49,13 @@ fn directory(alloc: Global, count: usize) -> Result<Vec<Leaf>, OutOfMemory>
 {
     let mut chunks = Vec::with_capacity(alloc, count)?;
     for _ in 0..count {
-        chunks.push_reserved(Leaf::new(alloc));
+        chunks.push_reserved(Leaf::new());
     }
     Ok(chunks)
 }
 
 // Gives each chunk from one to before another its places.
-fn add_leaves(chunks: &mut Vec<Leaf>, from: u32, end: u32) -> Result<(), OutOfMemory>
+fn add_leaves(alloc: Global, chunks: &mut Vec<Leaf>, from: u32, end: u32) -> Result<(), OutOfMemory>
     requires { end ≤ vec_len chunks.old }
     ensures len { vec_len chunks.new ≡ vec_len chunks.old }
     ensures kept { (page : ℕ) → place_of chunks.new.items page ≡ place_of chunks.old.items page }
@@ -61,7 +63,7 @@ fn add_leaves(chunks: &mut Vec<Leaf>, from: u32, end: u32) -> Result<(), OutOfMe
     ensures ok { OnOk result ((page : ℕ) → from ≤ page / 128 → page / 128 < end → is_placed (leaves_of chunks.new.items) page ≡ true) }
 {
     for chunk in from..end {
-        chunks[chunk as usize].fill()?;
+        chunks[chunk as usize].fill(alloc)?;
     }
     Ok(())
 }
@@ -78,7 +80,11 @@ impl Overlay {
     {
         let count = (length / PAGE) as u32;
         let chunks = directory(alloc, count.div_ceil(PAGES) as usize)?;
-        Ok(Overlay { count, chunks })
+        Ok(Overlay {
+            alloc,
+            count,
+            chunks,
+        })
     }
 
     /// The number of pages.
@@ -104,7 +110,7 @@ impl Overlay {
         ensures grows { KeepsPlaces self.old.leaves self.new.leaves }
     {
         let end = (first as u64 + pages as u64).div_ceil(u64::from(PAGES)) as u32;
-        add_leaves(&mut self.chunks, first / PAGES, end)
+        add_leaves(self.alloc, &mut self.chunks, first / PAGES, end)
     }
 
     /// Puts a page's bytes in their place. It takes no memory.

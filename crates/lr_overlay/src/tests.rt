@@ -1,3 +1,4 @@
+//! Tests of the overlay's calls.
 ghost use Rattle.std.specs.Prelude.{◌≡◌, ◌<◌, length};
 
 use crate::Overlay;

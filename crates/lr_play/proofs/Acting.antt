@@ -11,6 +11,7 @@ use Rattle.lr_actors.specs.Trailed.{IsTrailOf}
 use Rattle.lr_world.specs.Calling.{objects_in}
 use Rattle.lr_world.specs.World.{Seen, objects_of, part_of, MayBegin, IsWorld}
 use Rattle.lr_world.specs.Runs.{Ends, AreCounted, Left}
+use Rattle.lr_world.specs.Bounded.{AreBounded}
 use Rattle.lr_play.specs.Acting.{HaveActed}
 
 -- as many actors as there were
@@ -20,13 +21,14 @@ as_many old new left = sym (length-map new.actors part_of) ∙ (ap length left.c
 -- The world began as the parts and actors, ran, and was taken apart.
 pub acted : {O : Type 0} (schedule : ScheduleSeen) (old begun ended : Seen O) (parts : Parts O) (told : List Trail) (actors : List actor.Seen) → begun ≡ old → objects_in parts ≡ objects_of ended → actors ≡ ended.actors
     → ((context : Context) (hosts : ℕ) → MayBegin context hosts old → IsWorld context hosts begun) → ((context : Context) (hosts : ℕ) → IsWorld context hosts begun → IsWorld context hosts ended)
-    → Left begun ended → Ends schedule ended → AreCounted schedule begun ended → AllZip IsTrailOf actors told → HaveActed schedule old parts told
-acted schedule old begun ended parts told actors same objects its starts runs left ends counted trails = record {
+    → Left begun ended → Ends schedule ended → AreCounted schedule begun ended → AreBounded begun ended → AllZip IsTrailOf actors told → HaveActed schedule old parts told
+acted schedule old begun ended parts told actors same objects its starts runs left ends counted bounded trails = record {
   new = ended;
   objects = objects;
   is = λ context hosts may. runs context hosts (starts context hosts may);
   left = subst (λ (w : Seen _). Left w ended) same left;
   ends = ends;
   counted = subst (λ (w : Seen _). AreCounted schedule w ended) same counted;
+  bounded = subst (λ (w : Seen _). AreBounded w ended) same bounded;
   trails = subst (λ (xs : List actor.Seen). AllZip IsTrailOf xs told) its trails;
 }

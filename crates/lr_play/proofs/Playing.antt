@@ -14,7 +14,7 @@ use Rattle.lr_actors.specs.Jobs.{seen_context, calls, closes}
 use Rattle.lr_replies.specs.Objects.{Objects, own_lists}
 use Rattle.lr_replies.specs.Replies.{AreMade, IsOut}
 use Rattle.lr_world.specs.Calling.{objects_in}
-use Rattle.lr_world.specs.World.{Seen, objects_of, Part, cast_of, IsNumber, HasJob, HasCalls, HasNoClaims, MayBegin, IsWorld}
+use Rattle.lr_world.specs.World.{Seen, objects_of, Part, cast_of, IsNumber, HasJob, HasCalls, HasNoClaims, HasNoSession, MayBegin, IsWorld}
 use Rattle.lr_world.specs.Runs.{Grew, MaySchedule}
 use Rattle.lr_prepare.specs.Prepared.{IsPrepared}
 use Rattle.lr_play.specs.Players.{Player, actors_of, after_of, players_of}
@@ -111,6 +111,14 @@ module _ {O : Type 0} (script : ScriptSeen) (within : IsWithin script) (context 
         actor_lists i p e o =
             ap (λ (u : Objects). own_lists u p.number o) ended.objects ∙ (ended.left.others p.number (not_after p.number (actor_number script within i p e)) o ∙ ap (λ (u : Objects). own_lists u p.number o) same)
 
+        actor_sessions : (i : ℕ) (p : Player) → slice_get (actors_of script) i ≡ Some p → HasNoSession w p.number → HasNoSession (objects_in last) p.number
+        actor_sessions i p e none =
+            subst (λ (u : Objects). HasNoSession u p.number) (sym ended.objects)
+            (ended.left.sessions p.number (not_after p.number (actor_number script within i p e)) (subst (λ (u : Objects). HasNoSession u p.number) (sym same) none))
+
+        after_sessions : (i : ℕ) (p : Player) → slice_get (after_of script) i ≡ Some p → HasNoSession (objects_of ended.new) p.number → HasNoSession (objects_in last) p.number
+        after_sessions i p e none = subst (λ (u : Objects). HasNoSession u p.number) (sym ended.objects) none
+
         after_lists : (i : ℕ) (p : Player) → slice_get (after_of script) i ≡ Some p → (o : ObjectId) → own_lists (objects_in last) p.number o ≡ own_lists (objects_of ended.new) p.number o
         after_lists i p e o = ap (λ (u : Objects). own_lists u p.number o) ended.objects
 
@@ -149,7 +157,7 @@ module _ {O : Type 0} (script : ScriptSeen) (within : IsWithin script) (context 
               parts = are;
               actors = all_fit script context hosts (actors_of script) script.schedule old parts told actors acted world within.schedule;
               after = all_fit script context hosts (after_of script) Serial later last more after ended after_world tt;
-              free = all_let_go script context hosts (actors_of script) script.schedule old parts told actors acted world (objects_in last) actor_lists;
-              after_free = all_let_go script context hosts (after_of script) Serial later last more after ended after_world (objects_in last) after_lists;
+              free = all_let_go script context hosts (actors_of script) script.schedule old parts told actors acted world (objects_in last) actor_lists actor_sessions;
+              after_free = all_let_go script context hosts (after_of script) Serial later last more after ended after_world (objects_in last) after_lists after_sessions;
               closing = closed script depot before last kept p all grew trails may made;
             }

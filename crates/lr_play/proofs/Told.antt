@@ -14,13 +14,14 @@ use Rattle.lr_actors.specs.declared.trail.ActorState.{ActorState}
 use Rattle.lr_actors.specs.declared.trail.ActorState.TheVariants.{Ended, Crashed, Unfinished}
 use Rattle.lr_actors.specs.Records.{HasTrail}
 use Rattle.lr_actors.specs.Actor as actor
-use Rattle.lr_actors.specs.Actor.{IsNew, AreEnded, FitsState, FitsCrash, FitsNow, over, steps_in, steps_made}
+use Rattle.lr_actors.specs.Actor.{IsNew, AreEnded, FitsState, FitsCrash, FitsNow, over, steps_in, steps_made, bounds_of}
 use Rattle.lr_actors.specs.Trailed.{IsTrailOf}
 use Rattle.lr_replies.specs.Objects.{Objects, own_lists}
 use Rattle.lr_world.specs.World as world
-use Rattle.lr_world.specs.World.{Seen, objects_of, Part, cast_of, HasNoneOut, IsInPlace, IsWorld}
+use Rattle.lr_world.specs.World.{Seen, objects_of, Part, cast_of, HasNoneOut, HasNoSession, HasSessions, HoldsNothing, IsInPlace, IsWorld}
 use Rattle.lr_world.specs.World.{LetsGo as LetsGoNow}
 use Rattle.lr_world.specs.Runs.{steps_for, AllEnded, Ends, AreCounted}
+use Rattle.lr_world.specs.Bounded.{removals}
 use Rattle.lr_play.specs.Players.{Player}
 use Rattle.lr_play.specs.Acting.{AreNew, HaveActed}
 use Rattle.lr_play.specs.Played.{IsTrail, FitsAnswers, FitsSchedule, LetsGo, part_of}
@@ -47,13 +48,15 @@ module _ (a : actor.Seen) (t : Trail) (h : IsTrailOf a t) where
   answers Crashed f = h.cut
   answers Unfinished f = h.cut
 
-  pub one_trail : (context : Context) (hosts : ℕ) (w v : Objects) (p : Player) → world.part_of a ≡ part_of context hosts p → IsInPlace w a → ((o : ObjectId) → own_lists v a.number o ≡ own_lists w a.number o) → IsTrail context v p t
-  one_trail context hosts w v p part place own = record {
+  pub one_trail : (context : Context) (hosts : ℕ) (w v : Objects) (p : Player) → world.part_of a ≡ part_of context hosts p → IsInPlace w a → ((o : ObjectId) → own_lists v a.number o ≡ own_lists w a.number o)
+      → steps_made a ≤ bounds_of p.jobs + removals (own_lists v p.number) → IsTrail context v p t
+  one_trail context hosts w v p part place own few = record {
     trail = subst (λ (q : Part). HasTrail q.context (own_lists v q.number) q.jobs t.results.items) part
         (subst (λ (lists : Lists). HasTrail a.context lists a.jobs t.results.items) (sym (same_lists (own_lists v a.number) (own_lists w a.number) own)) (h.trail (own_lists w a.number) place.stands));
     answers = subst (λ (s : ActorState). FitsAnswers s t) (sym h.state) (answers a.state place.is.state);
     crash = subst (λ (q : Part). FitsCrash q.crash t.state (steps_in t.results.items)) part
         (subst (λ (s : ActorState). FitsCrash a.crash s (steps_in t.results.items)) (sym h.state) (subst (FitsCrash a.crash a.state) (sym h.made) place.is.crash));
+    bound = omega (arith, h.made, few);
   }
 
   has_ended : (w : Objects) → IsInPlace w a → a.now ≡ over → t.state ≢ Unfinished
@@ -106,6 +109,8 @@ module _ {O : Type 0} (script : ScriptSeen) (context : Context) (hosts : ℕ) (p
       by : (i : ℕ) (p : Player) (t : Trail) → slice_get players i ≡ Some p → OfPlayer i p t → IsTrail context v p t
       by i p t e a = one_trail a.is_now t a.tells context hosts w v p a.part (is.actors i a.is_now a.at)
           (λ o. subst (λ (n : ℕ). own_lists v n o ≡ own_lists w n o) (sym (ap (λ (q : Part). q.number) a.part)) (own i p e o))
+          (subst (λ (lists : Lists). steps_made a.is_now ≤ bounds_of p.jobs + removals lists) (sym (same_lists (own_lists v p.number) (own_lists w p.number) (own i p e)))
+          (acted.bounded i p.number context hosts p.jobs p.crash a.was a.is_now a.at_first a.at a.made))
 
   all_ended : AllEnded acted.new → AllZip (λ (p : Player) (t : Trail). t.state ≢ Unfinished) players told
   all_ended ends = zip_by (λ (p : Player) (t : Trail). t.state ≢ Unfinished) players told many (λ i p t e f. by i p t (of_player i p t e f))
@@ -138,26 +143,35 @@ module _ {O : Type 0} (script : ScriptSeen) (context : Context) (hosts : ℕ) (p
 
   -- ---- what is out
 
-  none_out : (v : Objects) → ((i : ℕ) (p : Player) → slice_get players i ≡ Some p → (o : ObjectId) → own_lists v p.number o ≡ own_lists w p.number o) → AllEnded acted.new
-      → AllByRecursion (λ (p : Player). (o : ObjectId) → HasNoneOut (own_lists v p.number) o) players
-  none_out v own ends = all_by (λ (p : Player). (o : ObjectId) → HasNoneOut (own_lists v p.number) o) players (λ i p e. by i p e (there told i (let l : i < length players = within players i p e in let m = many in omega (arith, l, m))))
+  -- of these callers the own lists and the sessions are as they were when they had acted
+  record AreAsActed (v : Objects) : Type 0 where
+    lists : (i : ℕ) (p : Player) → slice_get players i ≡ Some p → (o : ObjectId) → own_lists v p.number o ≡ own_lists w p.number o
+    sessions : (i : ℕ) (p : Player) → slice_get players i ≡ Some p → HasNoSession w p.number → HasNoSession v p.number
+
+  none_out : (v : Objects) → AreAsActed v → AllEnded acted.new → AllByRecursion (λ (p : Player). HoldsNothing v p.number) players
+  none_out v same ends = all_by (λ (p : Player). HoldsNothing v p.number) players (λ i p e. by i p e (there told i (let l : i < length players = within players i p e in let m = many in omega (arith, l, m))))
     where
-      by : (i : ℕ) (p : Player) → slice_get players i ≡ Some p → (t : Trail) × (slice_get told i ≡ Some t) → (o : ObjectId) → HasNoneOut (own_lists v p.number) o
-      by i p e t o =
+      by : (i : ℕ) (p : Player) → slice_get players i ≡ Some p → (t : Trail) × (slice_get told i ≡ Some t) → HoldsNothing v p.number
+      by i p e t =
           let a = of_player i p t.0 e t.1 in
-          let gone : HasNoneOut (own_lists w a.is_now.number) o =
-          (is.actors i a.is_now a.at).gone o (subst (λ (n : actor.Now). LetsGoNow n a.is_now o) (sym (ends i a.is_now a.at)) tt) in
-          subst (λ (lists : Lists). HasNoneOut lists o) (sym (same_lists (own_lists v p.number) (own_lists w p.number) (own i p e)))
-          (subst (λ (n : ℕ). HasNoneOut (own_lists w n) o) (ap (λ (q : Part). q.number) a.part) gone)
+          let place : IsInPlace w a.is_now = is.actors i a.is_now a.at in
+          let over_now : a.is_now.now ≡ over = ends i a.is_now a.at in
+          let number : a.is_now.number ≡ p.number = ap (λ (q : Part). q.number) a.part in
+          record {
+            lists = λ o. subst (λ (lists : Lists). HasNoneOut lists o) (sym (same_lists (own_lists v p.number) (own_lists w p.number) (same.lists i p e)))
+                (subst (λ (n : ℕ). HasNoneOut (own_lists w n) o) number (place.gone o (subst (λ (n : actor.Now). LetsGoNow n a.is_now o) (sym over_now) tt)));
+            sessions = same.sessions i p e (subst (HasNoSession w) number (subst (λ (n : actor.Now). HasSessions n w a.is_now.number) over_now place.sessions));
+          }
 
   unbound : (v : Objects) → AllByRecursion (λ (p : Player). Unit {0}) players
   unbound v = all_by (λ (p : Player). Unit {0}) players (λ i p e. tt)
 
-  lets_go : (v : Objects) → ((i : ℕ) (p : Player) → slice_get players i ≡ Some p → (o : ObjectId) → own_lists v p.number o ≡ own_lists w p.number o) → (z : ScheduleSeen) → Ends z acted.new → AllByRecursion (LetsGo z v) players
-  lets_go v own Serial ends = none_out v own ends
-  lets_go v own Rounds ends = none_out v own ends
-  lets_go v own (Pairs pairs false) ends = unbound v
-  lets_go v own (Pairs pairs true) ends = none_out v own ends
+  lets_go : (v : Objects) → AreAsActed v → (z : ScheduleSeen) → Ends z acted.new → AllByRecursion (LetsGo z v) players
+  lets_go v same Serial ends = none_out v same ends
+  lets_go v same Rounds ends = none_out v same ends
+  lets_go v same (Pairs pairs false) ends = unbound v
+  lets_go v same (Pairs pairs true) ends = none_out v same ends
 
-  pub all_let_go : (v : Objects) → ((i : ℕ) (p : Player) → slice_get players i ≡ Some p → (o : ObjectId) → own_lists v p.number o ≡ own_lists w p.number o) → AllByRecursion (LetsGo s v) players
-  all_let_go v own = lets_go v own s acted.ends
+  pub all_let_go : (v : Objects) → ((i : ℕ) (p : Player) → slice_get players i ≡ Some p → (o : ObjectId) → own_lists v p.number o ≡ own_lists w p.number o)
+      → ((i : ℕ) (p : Player) → slice_get players i ≡ Some p → HasNoSession w p.number → HasNoSession v p.number) → AllByRecursion (LetsGo s v) players
+  all_let_go v own none = lets_go v (record { lists = own; sessions = none }) s acted.ends

@@ -11,6 +11,7 @@ use Rattle.lr_actors.specs.Trailed.{IsTrailOf}
 use Rattle.lr_world.specs.Calling.{objects_in}
 use Rattle.lr_world.specs.World.{Seen, objects_of, MayBegin, IsWorld}
 use Rattle.lr_world.specs.Runs.{Ends, AreCounted, Left}
+use Rattle.lr_world.specs.Bounded.{AreBounded}
 use Rattle.lr_play.specs.Players.{Player}
 
 -- each player's jobs may be given to an actor
@@ -29,6 +30,7 @@ pub record HaveActed {O : Type 0} (schedule : ScheduleSeen) (old : Seen O) (part
   pub left : Left old new
   pub ends : Ends schedule new
   pub counted : AreCounted schedule old new
+  pub bounded : AreBounded old new
   pub trails : AllZip IsTrailOf new.actors told
 
 -- .. behind those trails that were there

@@ -1,7 +1,6 @@
 -- What a script's play leaves.
-use Rattle.std.specs.Prelude.{◌≡◌, ◌≢◌, ℕ, List, [], ◌∷◌, ◌++◌, map, false, ⊤}
+use Rattle.std.specs.Prelude.{◌≡◌, ◌≢◌, ◌≤◌, ◌+◌, ℕ, List, [], ◌∷◌, ◌++◌, map, false, ⊤}
 use Rattle.std.specs.List.{AllByRecursion, AllZip}
-use Rattle.lr_object.specs.declared.id.ObjectId.{ObjectId}
 use Rattle.lr_walk.specs.Jobs.{Context}
 use Rattle.lr_setup.specs.Setup.{SetupLine}
 use Rattle.lr_script.specs.Seen.{ScriptSeen, ScheduleSeen, Serial, Pairs}
@@ -11,12 +10,13 @@ use Rattle.lr_actors.specs.declared.trail.Trail.{Trail}
 use Rattle.lr_actors.specs.declared.trail.ActorState.{ActorState}
 use Rattle.lr_actors.specs.declared.trail.ActorState.TheVariants.{Ended, Unfinished}
 use Rattle.lr_actors.specs.Jobs.{seen_context}
-use Rattle.lr_actors.specs.Actor.{AreEnded, AreCutOnce, FitsCrash, steps_in}
+use Rattle.lr_actors.specs.Actor.{AreEnded, AreCutOnce, FitsCrash, steps_in, bounds_of}
 use Rattle.lr_actors.specs.Records.{HasTrail}
 use Rattle.lr_replies.specs.Objects.{Objects, own_lists}
 use Rattle.lr_world.specs.Calling.{objects_in}
-use Rattle.lr_world.specs.World.{Part, HasNoneOut}
+use Rattle.lr_world.specs.World.{Part, HoldsNothing}
 use Rattle.lr_world.specs.Runs.{Grew, steps_for}
+use Rattle.lr_world.specs.Bounded.{removals}
 use Rattle.lr_headline.specs.Closing.{Left, Closing, IsClosing}
 use Rattle.lr_play.specs.Players.{Player, actors_of, after_of, players_of}
 
@@ -26,21 +26,23 @@ FitsAnswers Ended t = AreEnded t.results.items
 FitsAnswers state t = AreCutOnce t.results.items
 
 -- The trail of a player: each job's result has its walk over the player's own lists; a crash comes after exactly the steps of its line, and
--- after a job that was cut or not begun none was begun.
+-- after a job that was cut or not begun none was begun. Its paths have at most as many steps as the bounds of its jobs allow, and one more
+-- for each key that its sweeps removed.
 pub record IsTrail (context : Context) (w : Objects) (p : Player) (t : Trail) : Type 0 where
   pub trail : HasTrail context (own_lists w p.number) p.jobs t.results.items
   pub answers : FitsAnswers t.state t
   pub crash : FitsCrash p.crash t.state (steps_in t.results.items)
+  pub bound : steps_in t.results.items ≤ bounds_of p.jobs + removals (own_lists w p.number)
 
 -- Only where a schedule of pairs stops is a player unfinished, and then it made just the steps that the pairs give it.
 abbrev pub FitsSchedule : ScheduleSeen → Player → Trail → Type 0
 FitsSchedule (Pairs pairs false) p t = t.state ≡ Unfinished → t.steps ≡ steps_for p.number pairs
 FitsSchedule schedule p t = t.state ≢ Unfinished
 
--- Where the schedule goes on until all have ended, a player has neither a plan nor a claim out, by its own lists.
+-- Where the schedule goes on until all have ended, a player has no plan, claim or session out.
 abbrev pub LetsGo : ScheduleSeen → Objects → Player → Type 0
 LetsGo (Pairs pairs false) w p = ⊤
-LetsGo schedule w p = (o : ObjectId) → HasNoneOut (own_lists w p.number) o
+LetsGo schedule w p = HoldsNothing w p.number
 
 -- who has left, with the results
 abbrev pub left_by : List Player → List Trail → List Left

@@ -1,3 +1,4 @@
+//! Why bytes are no script.
 ghost use Rattle.std.specs.Prelude.{◌≡◌};
 ghost use Rattle.lr_script.specs.declared.error.ScriptError.TheVariants.{OutOfMemory as NoMemory};
 

@@ -1,3 +1,4 @@
+//! Kinds of lines, and the parts of a script in which they come.
 ghost use Rattle.std.specs.Prelude.{◌≡◌};
 ghost use Rattle.lr_script.specs.Kinds.{kind_of, may_come};
 

@@ -1,3 +1,4 @@
+//! A script, read line by line.
 ghost use Rattle.std.specs.Prelude.{◌⊎◌, ◌≡◌, ◌<◌, ◌≤◌, ◌++◌, ℕ, List, length, IfOk, IfErr};
 ghost use Rattle.lr_script.specs.Seen.{ScriptSeen};
 ghost use Rattle.lr_script.specs.Limits.{bytes_most};

@@ -1,3 +1,4 @@
+//! A script, as it was read.
 use lr_origin::Key;
 use lr_text::ImageName;
 use std::marker::Model;

@@ -1,3 +1,4 @@
+//! The words: a play, or a single command.
 ghost use Rattle.std.specs.Prelude.{◌≡◌, ◌≢◌, ◌≤◌, ◌⊎◌, ◌↔◌, [], ◌∷◌, ℕ, IsTrue, false, map, codes, string_bytes, ⊤};
 ghost use Rattle.lr_spec.specs.Told.{Told};
 ghost use Rattle.lr_io.specs.Streams.{Appends, AppendsFront};

@@ -25,16 +25,17 @@ use Rattle.lr_actors.specs.Running.{steps_left}
 use Rattle.lr_actors.specs.Asked.{a_call, HandsCall, seen_reply}
 use Rattle.lr_actors.specs.Jobs.{Job, closes, bound_of}
 use Rattle.lr_actors.specs.Actor as actor
-use Rattle.lr_actors.specs.Actor.{Now, works, idles, reaps, over, handed, IsActor, IsSame, StandsFor, StandsNow, StandsReaped, reaps_of, Took, Passed, FitsNow, ReapsOn, Gains, AddsNow, Nears, asks_now, reap_at, reap_of, reap_place, reap_count, reaps_from, reaps_ahead, bounds_of, left, now_left}
+use Rattle.lr_actors.specs.Actor.{Now, works, idles, reaps, over, handed, IsActor, IsSame, StandsFor, StandsNow, StandsReaped, reaps_of, Took, Passed, FitsNow, AdmitsNow, GoesOn, ReapsOn, Gains, AddsNow, Nears, asks_now, reap_at, reap_of, reap_place, reap_count, reaps_from, reaps_ahead, bounds_of, left, now_left}
 use Rattle.lr_replies.specs.Objects.{Objects, own_lists, Replies}
 use Rattle.lr_replies.specs.Replies.{AreMade, IsReady, HasLease}
 use Rattle.lr_world.specs.Laws.{Laws}
-use Rattle.lr_world.specs.World.{Seen, objects_of, Part, part_of, cast_of, IsCast, IsNumber, HasCalls, HasNoneOut, LetsGo, IsInPlace, IsWorld, Called, Idled, StepsNow}
+use Rattle.lr_world.specs.World.{Seen, objects_of, Part, part_of, cast_of, IsCast, IsNumber, HasCalls, HasNoneOut, HasNoSession, HasSessions, LetsGo, IsInPlace, IsWorld, Called, Idled, StepsNow}
 use Rattle.lr_world.proofs.Places.{at_same, at_other}
 use Rattle.lr_world.proofs.Taken.{part_at, ready}
 use Rattle.lr_world.proofs.Leases.{same_or_not, IsClosing, Closing, closing_of, lease_stays}
 use Rattle.lr_world.proofs.Nearing.{results_stay, ends, next_bounds}
 use Rattle.lr_world.proofs.Gone.{jobs_gone, reap_gone}
+use Rattle.lr_world.proofs.Outstanding.{others_sessions, none_sessions, work_sessions, reap_sessions}
 
 map_set : {X Y : Type 0} (f : X → Y) (xs : List X) (i : ℕ) (x y : X) → slice_get xs i ≡ Some x → f y ≡ f x → map f (set xs i y) ≡ map f xs
 map_set f [] i x y e s = refl
@@ -72,7 +73,7 @@ module _ {O : Type 0} (context : Context) (hosts : ℕ) (old new : Seen O) (i : 
 
     module _ (made : AreMade (objects_of new) context hosts) (stay : (other : ℕ) → other ≢ a.number → (o : ObjectId) → own_lists (objects_of new) other o ≡ own_lists (objects_of old) other o)
         (lease : (j k : ℕ) (p : Part) (job : Job) → slice_get (cast_of old) j ≡ Some p → slice_get p.jobs k ≡ Some job → j ≢ i → HasLease (objects_of old) context job → HasLease (objects_of new) context job)
-        (here : IsInPlace (objects_of new) after) where
+        (hold : (other : ℕ) (now : Now) → other ≢ a.number → HasSessions now (objects_of old) other → HasSessions now (objects_of new) other) (here : IsInPlace (objects_of new) after) where
       other_place : (j : ℕ) (b : actor.Seen) → j ≢ i → slice_get old.actors j ≡ Some b → IsInPlace (objects_of new) b
       other_place j b ne e =
           let place : IsInPlace (objects_of old) b = is.actors j b e in
@@ -85,6 +86,7 @@ module _ {O : Type 0} (context : Context) (hosts : ℕ) (old new : Seen O) (i : 
             leases = λ k job le at. subst (λ (x : Context). HasLease (objects_of new) x job) (sym shared)
                 (lease j k (part_of b) job (part_at old j b e) at ne (subst (λ (x : Context). HasLease (objects_of old) x job) shared (place.leases k job le at)));
             gone = λ o l. subst (λ (lists : Lists). HasNoneOut lists o) (sym own) (place.gone o l);
+            sessions = hold b.number b.now (other_number j b ne e) place.sessions;
           }
 
       place_of : (j : ℕ) (b : actor.Seen) → slice_get new.actors j ≡ Some b → IsInPlace (objects_of new) b
@@ -163,13 +165,14 @@ idled_place laws w a after place now passed =
       leases = λ k job le at. subst (λ (x : Context). HasLease w x job) (sym passed.same.context)
           (place.leases k job (omega (arith, grow, le)) (ap (λ (jobs : List Job). slice_get jobs k) (sym passed.same.jobs) ∙ at));
       gone = λ o l. jobs_gone laws.ended after (own_lists w after.number) passed.is stands crash o l;
+      sessions = none_sessions after.now after (own_lists w after.number) w after.number (subst (HasNoSession w) (sym numbers) (subst (λ (n : Now). HasSessions n w a.number) now place.sessions)) stands;
     }
 
 pub keeps_idled : {O : Type 0} (laws : Laws) (context : Context) (hosts : ℕ) (old new : Seen O) (i : ℕ) (a : actor.Seen) → IsWorld context hosts old → slice_get old.actors i ≡ Some a → a.now ≡ idles → Idled old i a new → IsWorld context hosts new
 keeps_idled {O} laws context hosts old new i a is got now idled =
     let mid : Seen O = record old { actors = set old.actors i idled.after } in
     let kept : IsWorld context hosts mid =
-    world_of context hosts old mid i a idled.after got refl (part_same a idled.after idled.passed.same) is is.made (λ other ne o. refl) (λ j k p job part at ne h. h)
+    world_of context hosts old mid i a idled.after got refl (part_same a idled.after idled.passed.same) is is.made (λ other ne o. refl) (λ j k p job part at ne h. h) (λ other now ne h. h)
     (idled_place laws (objects_of old) a idled.after (is.actors i a got) now idled.passed)
     in subst (IsWorld context hosts) (sym idled.kept) kept
 
@@ -280,6 +283,20 @@ module _ {O : Type 0} (laws : Laws) (objects : O → Option Stored) (faults : O 
       (λ x h. place.gone x (subst (λ (n : Now). LetsGo n a x) (sym e) h)) o
       (reaped_by made o (nat_lt (made + 1) (reap_count after.context after.hosts)) refl (subst (λ (n : Now). LetsGo n after o) g.1 l)))
 
+  sessions_by : (now : Now) → FitsNow now a → HasSessions now (objects_of old) a.number → GoesOn now (handed a) (seen_reply reply) after → ReapsOn now after → AdmitsNow now a (seen_reply reply) → AddsNow now a (seen_reply reply) gains.0
+      → HandsCall asked (asks_now now a) → HasSessions after.now (objects_of new) a.number
+  sessions_by (works r) f had goes g admits adds hands =
+      work_sessions (objects_of old) (objects_of new) a.number r had gains.0 a after (own_lists (objects_of new) after.number) asked reply c.called f.1 admits hands adds goes stands_new g
+  sessions_by (reaps made) f had goes g admits adds hands =
+      reap_sessions a.number made a after asked reply (objects_of old) (objects_of new) c.called hands same.context same.hosts g.1
+  sessions_by idles f had goes g admits adds hands = absurd adds
+  sessions_by over f had goes g admits adds hands = absurd adds
+
+  sessions_new : HasSessions after.now (objects_of new) after.number
+  sessions_new =
+      subst (HasSessions after.now (objects_of new)) (sym same.number)
+      (sessions_by a.now place.is.now place.sessions c.took.goes c.took.reaps (laws.admitted (objects_of old) a asked reply rdy c.asks c.called.replies) gains.1 c.asks.asked)
+
   place_new : IsInPlace (objects_of new) after
   place_new =
       record {
@@ -288,6 +305,7 @@ module _ {O : Type 0} (laws : Laws) (objects : O → Option Stored) (faults : O 
         stands = stands_new;
         leases = leases_new;
         gone = gone_by a.now refl c.took.reaps gains.1 c.asks.asked;
+        sessions = sessions_new;
       }
 
   pub keeps_called : IsWorld context hosts new
@@ -295,6 +313,7 @@ module _ {O : Type 0} (laws : Laws) (objects : O → Option Stored) (faults : O 
       world_of context hosts old new i a after got c.actors (part_same a after same) is made_new
       (λ other ne o. laws.gain.others (objects_of old) (objects_of new) a.number other asked reply c.called ne o)
       (λ j k p job part at ne h. lease_new j k p job part at (λ closing s. absurd (ne s)) h)
+      (λ other now ne h. others_sessions now a.number other asked reply (objects_of old) (objects_of new) ne c.called h)
       place_new
 
 -- ---- a turn

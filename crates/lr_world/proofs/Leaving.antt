@@ -23,12 +23,13 @@ use Rattle.lr_actors.specs.Actor.{Now, works, idles, reaps, over, MayClose}
 use Rattle.lr_replies.specs.Objects.{Objects, Calls, Logs, LogsAt}
 use Rattle.lr_replies.specs.Replies.{IsOut, IsNoClose}
 use Rattle.lr_world.specs.Laws.{Laws}
-use Rattle.lr_world.specs.World.{Seen, objects_of, Part, part_of, cast_of, IsNumber, HasJob, IsWorld, StepsNow, StepsBy}
+use Rattle.lr_world.specs.World.{Seen, objects_of, Part, part_of, cast_of, IsNumber, HasJob, HasNoSession, IsWorld, StepsNow, StepsBy}
 use Rattle.lr_world.specs.Runs.{Runs, none, more, Gained, HaveGained, Grew, Left}
 use Rattle.lr_world.proofs.Taken.{part_at}
 use Rattle.lr_world.proofs.Leases.{same_or_not, Closing, closing_of}
 use Rattle.lr_world.proofs.Kept.{keeps_by, steps_cast}
 use Rattle.lr_world.proofs.Alone.{others_stay}
+use Rattle.lr_world.proofs.Outstanding.{others_sessions}
 
 -- ---- logs that grow
 
@@ -147,8 +148,15 @@ leases_step laws objects faults allows old new i a (works r) got s unclosed plac
 leases_step laws objects faults allows old new i a (reaps made) got s unclosed place out =
     laws.leases (objects_of old) (objects_of new) a.number place s.0 s.1 s.2.called (no_close (cast_of old) i a place.lease s.0 (part_at old i a got) unclosed s.2.asks.closes) out
 
+sessions_step : {O : Type 0} (objects : O → Option Stored) (faults : O → ℕ) (allows : Reply → Type 0) (old new : Seen O) (i : ℕ) (a : actor.Seen) (now : Now) → StepsNow objects faults allows now old i a new
+    → (other : ℕ) → other ≢ a.number → HasNoSession (objects_of old) other → HasNoSession (objects_of new) other
+sessions_step objects faults allows old new i a over s other ne free = subst (λ w. HasNoSession (objects_of w) other) (sym s) free
+sessions_step objects faults allows old new i a idles s other ne free = subst (λ w. HasNoSession (objects_of w) other) (sym s.kept) free
+sessions_step objects faults allows old new i a (works r) s other ne free = others_sessions over a.number other s.0 s.1 (objects_of old) (objects_of new) ne s.2.called free
+sessions_step objects faults allows old new i a (reaps made) s other ne free = others_sessions over a.number other s.0 s.1 (objects_of old) (objects_of new) ne s.2.called free
+
 left_none : {O : Type 0} (w : Seen O) → Left w w
-left_none w = record { cast = refl; grew = grew_none (cast_of w) (objects_of w); others = λ caller n o. refl; leases = λ n place out. out }
+left_none w = record { cast = refl; grew = grew_none (cast_of w) (objects_of w); others = λ caller n o. refl; sessions = λ caller n free. free; leases = λ n place out. out }
 
 left_on : {O : Type 0} (a b c : Seen O) → Left a b → Left b c → Left a c
 left_on a b c g h =
@@ -156,6 +164,7 @@ left_on a b c g h =
       cast = h.cast ∙ g.cast;
       grew = grew_on (cast_of a) (objects_of a) (objects_of b) (objects_of c) g.grew (subst (λ (cast : List Part). Grew cast (objects_of b) (objects_of c)) g.cast h.grew);
       others = λ caller n o. h.others caller (subst (λ (cast : List Part). ¬ (IsNumber cast caller)) (sym g.cast) n) o ∙ g.others caller n o;
+      sessions = λ caller n free. h.sessions caller (subst (λ (cast : List Part). ¬ (IsNumber cast caller)) (sym g.cast) n) (g.sessions caller n free);
       leases = λ n place out. h.leases (subst (λ (cast : List Part). (i k device : ℕ) → ¬ (HasJob cast i k (closes device))) (sym g.cast) n) place (g.leases n place out);
     }
 
@@ -167,6 +176,7 @@ left_step laws objects faults allows old new number s =
       cast = steps_cast objects faults allows old new i a a.now s.2 s.4;
       grew = grew_step objects faults allows old new i a a.now s.2 s.4;
       others = λ caller n o. others_stay laws objects faults allows old new i a a.now s.4 caller (λ e. n (i, part_of a, part_at old i a s.2, sym e)) o;
+      sessions = λ caller n free. sessions_step objects faults allows old new i a a.now s.4 caller (λ e. n (i, part_of a, part_at old i a s.2, sym e)) free;
       leases = λ n place out. leases_step laws objects faults allows old new i a a.now s.2 s.4 n place out;
     }
 

@@ -15,3 +15,7 @@ mod Serial
 mod Rounds
 mod Leaving
 mod Scheduled
+mod Bounding
+mod Sessions
+mod Openings
+mod Outstanding

@@ -143,7 +143,7 @@ results_full a Unfinished n f = absurd (n refl)
 results_full a Ended n f = f.1
 results_full a Crashed n f = f.1
 
-is_unfinished : (s : ActorState) → (s ≡ Unfinished) ⊎ (s ≡ Unfinished → ⊥)
+pub is_unfinished : (s : ActorState) → (s ≡ Unfinished) ⊎ (s ≡ Unfinished → ⊥)
 is_unfinished Unfinished = inl refl
 is_unfinished Ended = inr (λ e. absurd (cc))
 is_unfinished Crashed = inr (λ e. absurd (cc))
@@ -163,7 +163,7 @@ cases_le m n = swap (cases_lt n m)
     swap (inr h) = inl h
 
 module _ (old new : Seen) (was : IsActor old) (is : IsActor new) (same : IsSame old new) where
-  ahead_same : reaps_ahead new.crash new ≡ reaps_ahead old.crash old
+  pub ahead_same : reaps_ahead new.crash new ≡ reaps_ahead old.crash old
   ahead_same =
       subst (λ (c : Option ℕ). reaps_ahead c new ≡ reaps_ahead old.crash old) (sym same.crash) (by old.crash)
     where

@@ -13,8 +13,9 @@ use Rattle.lr_actors.specs.declared.trail.ActorState.TheVariants.{Unfinished, Cr
 use Rattle.lr_actors.specs.Actor as actor
 use Rattle.lr_actors.specs.Actor.{Now, works, idles, reaps, over, FitsNow, ReapsOn, counted}
 use Rattle.lr_world.specs.Laws.{Laws}
-use Rattle.lr_world.specs.World.{Seen, Part, part_of, cast_of, numbers_of, IsWorld, StepsNow, Steps, IsFree}
-use Rattle.lr_world.specs.Runs.{Runs, none, more, Works, InTurn, Round, InRounds, listed, IsScheduled, steps_for, AreCounted}
+use Rattle.lr_replies.specs.Objects.{Objects}
+use Rattle.lr_world.specs.World.{Seen, objects_of, Part, part_of, cast_of, numbers_of, HasSessions, HoldsNothing, LetsGo, IsInPlace, IsWorld, StepsNow, Steps, IsFree}
+use Rattle.lr_world.specs.Runs.{Runs, none, more, Works, InTurn, Round, InRounds, listed, IsScheduled, Ends, HaveLetGo, steps_for, AreCounted}
 use Rattle.lr_world.specs.Runs as order
 use Rattle.lr_world.proofs.Places.{at_same}
 use Rattle.lr_world.proofs.Leases.{same_or_not}
@@ -188,6 +189,20 @@ are_counted laws objects faults context hosts numbers (Pairs pairs false) old ne
     let same : times a.number (listed pairs) ≡ steps_for a.number pairs = times_listed a.number pairs in
     let whole : b.steps ≡ a.steps + times a.number (listed pairs) = runs_counted laws objects faults context hosts old is i a e new (listed pairs) s.1 b f unfinished (omega (arith, few, same)) in
     whole ∙ ap (λ (n : ℕ). a.steps + n) same
+
+-- ---- who has ended holds nothing
+
+nothing_held : (w : Objects) (a : actor.Seen) → IsInPlace w a → a.now ≡ over → HoldsNothing w a.number
+nothing_held w a place now = record {
+  lists = λ o. place.gone o (subst (λ (n : Now). LetsGo n a o) (sym now) tt);
+  sessions = subst (λ (n : Now). HasSessions n w a.number) now place.sessions;
+}
+
+pub have_let_go : {O : Type 0} (context : Context) (hosts : ℕ) (schedule : ScheduleSeen) (w : Seen O) → IsWorld context hosts w → Ends schedule w → HaveLetGo schedule w
+have_let_go context hosts Serial w is ends = λ i a e. nothing_held (objects_of w) a (is.actors i a e) (ends i a e)
+have_let_go context hosts Rounds w is ends = λ i a e. nothing_held (objects_of w) a (is.actors i a e) (ends i a e)
+have_let_go context hosts (Pairs pairs true) w is ends = λ i a e. nothing_held (objects_of w) a (is.actors i a e) (ends i a e)
+have_let_go context hosts (Pairs pairs false) w is ends = tt
 
 -- ---- pairs, and rounds behind them
 

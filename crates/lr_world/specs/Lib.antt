@@ -5,3 +5,4 @@ pub mod Turns
 pub mod Laws
 pub mod Working
 pub mod Rounding
+pub mod Bounded

@@ -14,7 +14,7 @@ use Rattle.lr_actors.specs.Actor.{over}
 use Rattle.lr_actors.specs.Jobs.{closes}
 use Rattle.lr_replies.specs.Objects.{Objects, own_lists}
 use Rattle.lr_replies.specs.Replies.{IsOut}
-use Rattle.lr_world.specs.World.{Seen, objects_of, Part, cast_of, IsNumber, HasJob, HasCalls, HasNoClaims, StepsBy, Steps, IsFree}
+use Rattle.lr_world.specs.World.{Seen, objects_of, Part, cast_of, IsNumber, HasJob, HasCalls, HasNoClaims, HasNoSession, HoldsNothing, StepsBy, Steps, IsFree}
 
 -- one step after another, by the actors of these numbers
 pub data Runs {O : Type 0} (objects : O → Option Stored) (faults : O → ℕ) : Seen O → List ℕ → Seen O → Type 0 where
@@ -84,6 +84,11 @@ abbrev pub Ends : {O : Type 0} → ScheduleSeen → Seen O → Type 0
 Ends (Pairs pairs false) w = ⊤
 Ends schedule w = AllEnded w
 
+-- So no plan, claim or session of an actor is out at the end.
+abbrev pub HaveLetGo : {O : Type 0} → ScheduleSeen → Seen O → Type 0
+HaveLetGo (Pairs pairs false) w = ⊤
+HaveLetGo schedule w = (i : ℕ) (a : actor.Seen) → slice_get w.actors i ≡ Some a → HoldsNothing (objects_of w) a.number
+
 -- how many steps the pairs give to a number
 abbrev pub steps_for : ℕ → List (ℕ × ℕ) → ℕ
 steps_for number [] = 0
@@ -115,10 +120,11 @@ pub record Grew (cast : List Part) (old new : Objects) : Type 0 where
   pub start : new.start ≡ old.start
   pub depot : Gained (IsNumber cast) old.depot new.depot
 
--- What a run leaves: the actors are those that they were; the objects grew; the own lists of other callers stay; and where no job is a
--- close, each lease that was out is out.
+-- What a run leaves: the actors are those that they were; the objects grew; the own lists of other callers stay, and those without a session
+-- have none; and where no job is a close, each lease that was out is out.
 pub record Left {O : Type 0} (old new : Seen O) : Type 0 where
   pub cast : cast_of new ≡ cast_of old
   pub grew : Grew (cast_of old) (objects_of old) (objects_of new)
   pub others : (caller : ℕ) → ¬ (IsNumber (cast_of old) caller) → (o : ObjectId) → own_lists (objects_of new) caller o ≡ own_lists (objects_of old) caller o
+  pub sessions : (caller : ℕ) → ¬ (IsNumber (cast_of old) caller) → HasNoSession (objects_of old) caller → HasNoSession (objects_of new) caller
   pub leases : ((i k device : ℕ) → ¬ (HasJob (cast_of old) i k (closes device))) → (place : DevicePlace) → IsOut (objects_of old) place → IsOut (objects_of new) place

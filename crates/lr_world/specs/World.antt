@@ -20,14 +20,16 @@ use Rattle.lr_manifest.specs.declared.name.Name.{Name}
 use Rattle.lr_origin.specs.Objects.{Objects as Stored}
 use Rattle.lr_depot.specs.declared.call.DepotCall.{DepotCall}
 use Rattle.lr_depot.specs.declared.call.DepotReply.{DepotReply}
+use Rattle.lr_rules.specs.State as rules
 use Rattle.lr_depot.specs.Depot as depots
 use Rattle.lr_depot.specs.Depot.{state, IsUnchanged}
-use Rattle.lr_depot.specs.Machine.{LogEntry, DepotStep, Enters, IsShared, IsSharedEntry, is_logged}
+use Rattle.lr_depot.specs.Machine.{LogEntry, HasNone, DepotStep, Enters, IsShared, IsSharedEntry, is_logged}
 use Rattle.lr_depot.specs.Store.{StoreStep, IsFault, IsUnasked}
 use Rattle.lr_walk.specs.Calls.{DevicePlace}
 use Rattle.lr_walk.specs.Jobs.{Context}
 use Rattle.lr_walk.specs.Trails.{Lists}
-use Rattle.lr_walk.specs.Steps.{Reply, by_cache}
+use Rattle.lr_walk.specs.Steps.{Call, on_depot, Reply, by_cache, by_depot, Step}
+use Rattle.lr_walk.specs.Depot as depot
 use Rattle.lr_walk.specs.Cache as caches
 use Rattle.lr_history.specs.Ready.{claim_by, plan_by, out_after}
 use Rattle.lr_actors.specs.declared.action.ActorCall.{ActorCall}
@@ -35,6 +37,8 @@ use Rattle.lr_actors.specs.declared.action.ActorCall.TheVariants as call
 use Rattle.lr_actors.specs.declared.action.ActorReply.{ActorReply}
 use Rattle.lr_actors.specs.declared.action.ActorReply.TheVariants as by
 use Rattle.lr_actors.specs.Asked.{seen_reply}
+use Rattle.lr_actors.specs.Running as running
+use Rattle.lr_actors.specs.Running.{Task, task_of}
 use Rattle.lr_actors.specs.Jobs.{Job, calls, closes}
 use Rattle.lr_actors.specs.Actor as actor
 use Rattle.lr_actors.specs.Actor.{Now, works, idles, reaps, over, IsActor, IsNew, StandsFor, handed, Took, Passed, reap_place, left}
@@ -121,22 +125,61 @@ HasNoneOut lists o = ⊤
 abbrev pub HasNoClaims : Objects → Type 0
 HasNoClaims w = (caller host : ℕ) → claim_out w caller host ≡ None
 
+-- ---- sessions
+
+-- The session that a creation or a migration has out after a step: its beginning gives it one; the manifest that is put and an abandon,
+-- whatever its answer, end it.
+abbrev pub session_by : Option ℕ → Reply → Call → Option ℕ
+session_by session (by_depot reply) (on_depot (depot.abandons n)) = None
+session_by session (by_depot (depot.began n root salt number)) (on_depot (depot.begins image)) = Some n
+session_by session (by_depot (depot.moving n from to m)) (on_depot (depot.begins_move image)) = Some n
+session_by session (by_depot (depot.made root)) (on_depot (depot.puts_manifest n m)) = None
+session_by session (by_depot (depot.moved from to)) (on_depot (depot.finishes_move n)) = None
+session_by session reply call = session
+
+abbrev pub session_after : List Step → Option ℕ
+session_after steps = out_after (λ session call reply. session_by session reply call) None steps
+
+-- .. which no other task has
+abbrev pub session_of : Task → List Step → Option ℕ
+session_of (running.creates image tenant raw) steps = session_after steps
+session_of (running.migrates image) steps = session_after steps
+session_of task steps = None
+
+-- no session of the caller is held
+abbrev pub HasNoSession : Objects → ℕ → Type 0
+HasNoSession w caller = (n : ℕ) → HasNone (state w.start w.depot) n caller
+
+-- Of a caller's sessions at most the one of its job under way is held, and between jobs and when it has ended none; while it crashes
+-- they end with the reap of the depot, which is the last one.
+abbrev pub HasSessions : Now → Objects → ℕ → Type 0
+HasSessions (works r) w caller =
+    (steps : List Step) × running.StandsFor r steps × ((n : ℕ) (job : rules.Job) → rules.Holds (state w.start w.depot) n caller job → session_of (task_of r) steps ≡ Some n)
+HasSessions (reaps made) w caller = ⊤
+HasSessions now w caller = HasNoSession w caller
+
 -- An actor that has ended holds nothing there; one that crashed nothing that it has reaped.
 abbrev pub LetsGo : Now → actor.Seen → ObjectId → Type 0
 LetsGo over a o = ⊤
 LetsGo (reaps made) a o = reap_place a.context a.hosts o < made
 LetsGo now a o = ⊥
 
+-- By its own lists a caller has neither a plan nor a claim out, and the depot holds no session of it.
+pub record HoldsNothing (w : Objects) (caller : ℕ) : Type 0 where
+  pub lists : (o : ObjectId) → HasNoneOut (own_lists w caller) o
+  pub sessions : HasNoSession w caller
+
 -- ---- a world
 
--- An actor among its objects: no call of it is out, it stands for its own lists, the leases of its jobs to come are out, and it holds
--- nothing where it has let go.
+-- An actor among its objects: no call of it is out, it stands for its own lists, the leases of its jobs to come are out, it holds
+-- nothing where it has let go, and no session but that of its job under way.
 pub record IsInPlace (w : Objects) (a : actor.Seen) : Type 0 where
   pub is : IsActor a
   pub out : a.out ≡ false
   pub stands : StandsFor a (own_lists w a.number)
   pub leases : (k : ℕ) (job : Job) → length a.account.results ≤ k → slice_get a.jobs k ≡ Some job → HasLease w a.context job
   pub gone : (o : ObjectId) → LetsGo a.now a o → HasNoneOut (own_lists w a.number) o
+  pub sessions : HasSessions a.now w a.number
 
 -- Where some job is a device call, no caller but the actors has a claim out.
 abbrev pub HaveClaims : Objects → List Part → Type 0

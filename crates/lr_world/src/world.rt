@@ -5,8 +5,9 @@ ghost use Rattle.lr_script.specs.Seen.{Serial as serial, Pairs as pairs_seen, sc
 ghost use Rattle.lr_actors.specs.Actor as actor;
 ghost use Rattle.lr_world.specs.World.{seen_of, seen, MayBegin, IsWorld, cast_of, numbers_of, IsNumber, Steps, Tells, IsFree, weight_of};
 ghost use Rattle.lr_world.specs.Turns.{IsSomeWorld, TurnedBy, Turned, stepped_of, goes_on, Goes, IsAlone, Falls, LeavesActors};
-ghost use Rattle.lr_world.specs.Runs.{Runs, InTurn, Round, InRounds, AllEnded, listed, IsScheduled, MaySchedule, Ends, Left, AreCounted};
+ghost use Rattle.lr_world.specs.Runs.{Runs, InTurn, Round, InRounds, AllEnded, listed, IsScheduled, MaySchedule, Ends, HaveLetGo, Left, AreCounted};
 ghost use Rattle.lr_world.specs.Working.{WorkedOut};
+ghost use Rattle.lr_world.specs.Bounded.{StaysWithin, AreBounded};
 
 use crate::calling::serve;
 use crate::laws::laws;
@@ -69,6 +70,7 @@ impl<O: Origin> World<O> {
         ensures seen { seen result ≡ seen_of parts actors }
         ensures is { (context : Context) (hosts : ℕ) → MayBegin context hosts (seen_of parts actors) → IsWorld context hosts (seen result) }
     {
+        lr_claims::sessions_are_ones_own();
         World { parts, actors }
     }
 
@@ -264,16 +266,21 @@ impl<O: Origin> World<O> {
         }
     }
 
-    /// The actors take the steps of the schedule. Under pairs without rounds some may be left unfinished; else all have ended.
+    /// The actors take the steps of the schedule. Under pairs without rounds some may be left unfinished; else all have ended, and no
+    /// plan, claim or session of theirs is out.
     pub fn run(&mut self, alloc: Global, schedule: &Schedule)
         requires world { IsSomeWorld self.old }
         requires may { MaySchedule (schedule_seen schedule.now) (seen self.old) }
         // The steps are those of the schedule, one after another. Serially no reply is Busy.
         ensures ran { (steps : List ℕ) × IsScheduled O.objects O.faults (numbers_of (cast_of (seen self.old))) (schedule_seen schedule.now) (seen self.old) steps (seen self.new) × Runs O.objects O.faults (seen self.old) steps (seen self.new) }
         ensures ends { Ends (schedule_seen schedule.now) (seen self.new) }
+        ensures freed { HaveLetGo (schedule_seen schedule.now) (seen self.new) }
         ensures is { (context : Context) (hosts : ℕ) → IsWorld context hosts (seen self.old) → IsWorld context hosts (seen self.new) }
         ensures left { Left (seen self.old) (seen self.new) }
         ensures counted { AreCounted (schedule_seen schedule.now) (seen self.old) (seen self.new) }
+        // No step but Busy is made beyond the bounds of the jobs.
+        ensures within { StaysWithin (seen self.old) (seen self.new) }
+        ensures bounded { AreBounded (seen self.old) (seen self.new) }
     {
         laws();
         self.run_all(alloc, schedule);

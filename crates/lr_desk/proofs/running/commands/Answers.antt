@@ -1,7 +1,7 @@
 use Rattle.std.proofs.Common.{◌≡◌, ◌≢◌, ℕ, Global, map, refl, ap, sym, subst, ◌∙◌, inl, inr, arith}
 use Rattle.std.specs.String.{string_bytes}
 use Rattle.lr_opening.specs.Cause.{IsCause}
-use Rattle.lr_desk.proofs.Answering.{cause_status, answered_usage, answered_by_cause, answered_started, has_commanded}
+use Rattle.lr_desk.proofs.Answering.{cause_status, answered_usage, answered_by_cause, answered_started, has_commanded, none_alone, commanded_alone}
 use Rattle.lr_desk.proofs.running.commands.Goals as goal
 
 pub returns-in_default-clause-answered : goal.returns-in_default-clause-answered
@@ -51,6 +51,15 @@ returns-clause-commanded g c = λ _.
     (g.I.Source.left c.args.source.now) (g.I.Source.left c.run-outcome.new.source) (g.W.Sink.written c.args.sink.now) (g.W.Sink.written c.run-outcome.new.sink)
     c.run-outcome.result c.status.result c.line.result c.in-Ok.ensures.started c.run-outcome.ensures.start c.end-origin.ensures.ended c.in-Some.ensures.found.0 c.in-Some.ensures.found.1 c.run-outcome.ensures.ran
     c.done_images.ensures.made c.status.ensures
+
+pub returns-clause-alone : goal.returns-clause-alone
+returns-clause-alone g c = commanded_alone (returns-clause-commanded g c refl) c.commands_come_alone.ensures.alone
+
+pub returns-in_default-clause-alone : goal.returns-in_default-clause-alone
+returns-in_default-clause-alone g c = none_alone c.unstarted.result.log.log c.unstarted.ensures.log
+
+pub returns-in-Err-clause-alone : goal.returns-in-Err-clause-alone
+returns-in-Err-clause-alone g c = none_alone c.failed.result.log.log c.failed.ensures.log
 
 pub returns-in_default-clause-unstarted : goal.returns-in_default-clause-unstarted
 returns-in_default-clause-unstarted g c = λ _.

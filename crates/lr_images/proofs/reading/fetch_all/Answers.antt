@@ -1,13 +1,17 @@
-use Rattle.std.proofs.Common.{◌≡◌, ◌<◌, ◌++◌, refl, sym, arith, length, subst, ◌∙◌}
+use Rattle.std.proofs.Common.{◌<◌, [], ◌++◌, arith, length}
 use Rattle.std.proofs.lemmas.Grind.{common_steps}
-use Rattle.lr_walk.specs.Depot.{Step}
-use Rattle.lr_images.specs.Cat.{Fetches, with_bytes}
-use Rattle.lr_images.proofs.Calling.{calls_on, rose_before}
-use Rattle.lr_images.proofs.Readings.{fetched_none, fetched_more, fetched_all, texts_all, fetched_until, keeps_on, out_now}
+use Rattle.std.proofs.lemmas.Result.{err_from_is_err_and}
+use Rattle.lr_images.proofs.Calling.{calls_none, calls_on, rose_before}
+use Rattle.lr_images.proofs.Readings.{short_fetches, fetched_none, fetched_more, fetched_all, texts_all, fetched_until, keeps_on, out_now}
 use Rattle.lr_images.proofs.reading.fetch_all.Goals as goal
 
 pub loop-index-init : goal.loop-index-init
-loop-index-init g c = fetched_none g.O.Origin.objects g.O.Origin.faults c.args.depot.now c.args.lease c.args.keys.now c.new-bytes.result.items (grind (arith, common_steps))
+loop-index-init g c = fetched_none g.O.Origin.objects g.O.Origin.faults c.args.depot.now c.args.lease c.args.keys.now c.in_ok-bytes.bytes.items c.in_ok-bytes.ensures.items
+
+pub returns-in_err-bytes-clause-walk : goal.returns-in_err-bytes-clause-walk
+returns-in_err-bytes-clause-walk g c =
+    let p = err_from_is_err_and c.from_residual.result c.from_residual.ensures.1 in
+    ([], calls_none g.O.Origin.faults c.args.depot.now, rw (p.1, p.2) (short_fetches c.args.lease (length c.args.keys.now) 0))
 
 pub loop-index-preserved : goal.loop-index-preserved
 loop-index-preserved g c =

@@ -10,7 +10,7 @@ returns-clause-acted g c = record {
   more = c.trails_of.ensures.trails.0;
   added = c.trails_of.ensures.trails.1;
   acted = acted (schedule_seen c.args.schedule.now) (seen_of c.args.parts c.args.actors) (seen c.new-world.result) (seen c.run.new.self) c.end-parts.result.0 c.trails_of.ensures.trails.0 c.end-parts.result.1.items c.new-world.ensures.seen
-      (ap (λ (w : Seen _). objects_of w) c.end-parts.ensures) (ap (λ (w : Seen _). w.actors) c.end-parts.ensures) c.new-world.ensures.is c.run.ensures.is c.run.ensures.left c.run.ensures.ends c.run.ensures.counted c.trails_of.ensures.trails.2;
+      (ap (λ (w : Seen _). objects_of w) c.end-parts.ensures) (ap (λ (w : Seen _). w.actors) c.end-parts.ensures) c.new-world.ensures.is c.run.ensures.is c.run.ensures.left c.run.ensures.ends c.run.ensures.counted c.run.ensures.bounded c.trails_of.ensures.trails.2;
 }
 
 pub returns-clause-len : goal.returns-clause-len
