@@ -23,7 +23,7 @@ use Rattle.lr_roots.specs.View.{View}
 use Rattle.lr_rootlines.specs.RootLines.{roots_part}
 use Rattle.lr_report.specs.Names.{device_names, caller_names, name_of}
 use Rattle.lr_report.specs.Answers.{answer_text}
-use Rattle.lr_report.specs.declared.run.OpenedDevice.{OpenedDevice}
+use Rattle.lr_report.specs.declared.run.OpenDevice.{OpenDevice}
 use Rattle.lr_report.specs.declared.run.Run.{Run}
 
 -- a call's word, between spaces
@@ -47,16 +47,16 @@ unfoldable pub entry_text : List (List ℕ) → Answered → List ℕ
 entry_text callers e = name_of callers e.caller ++ (call_text e.call ++ (reply_text e.reply ++ codes "\n"))
 
 -- `device NAME IMAGE LENGTH`, the length being that of the padded bytes
-unfoldable pub device_line : List ℕ → OpenedDevice → List ℕ
+unfoldable pub device_line : List ℕ → OpenDevice → List ℕ
 device_line name opened =
     codes "device " ++ (name ++ (codes " " ++ (opened.image ++ (codes " " ++ (decimal opened.length ++ codes "\n")))))
 
 -- a device's line, by its name and what was opened, and then each call that the device answered
-unfoldable pub device_part : List (List ℕ) → List ℕ × (OpenedDevice × Seen) → List ℕ
+unfoldable pub device_part : List (List ℕ) → List ℕ × (OpenDevice × Seen) → List ℕ
 device_part callers d = device_line d.0 d.1.0 ++ flat_map (entry_text callers) (history d.1.1.log)
 
 -- the devices in the order of their lines
-unfoldable pub devices_part : List (List ℕ) → List (List ℕ × (OpenedDevice × Seen)) → List ℕ
+unfoldable pub devices_part : List (List ℕ) → List (List ℕ × (OpenDevice × Seen)) → List ℕ
 devices_part callers ds = flat_map (device_part callers) ds
 
 -- what an actor came to

@@ -5,7 +5,7 @@ ghost use Rattle.lr_device.specs.Machine.{answered, history};
 ghost use Rattle.lr_report.specs.Report.{call_word, call_text, reply_text, entry_text, device_line, device_part, devices_part};
 
 use crate::names::name_of;
-use crate::run::OpenedDevice;
+use crate::run::OpenDevice;
 use lr_device::{Device, DeviceAnswer, DeviceCall, DeviceNoted, DeviceReply, answered};
 use lr_object::{Entry, Object};
 use lr_origin::ImageName;
@@ -79,7 +79,7 @@ fn put_entries(out: &mut Vec<u8>, callers: &[ImageName], device: &Device) -> Res
 fn put_device_line(
     out: &mut Vec<u8>,
     name: &ImageName,
-    opened: &OpenedDevice,
+    opened: &OpenDevice,
 ) -> Result<(), OutOfMemory>
     ensures { OnOk result (out.new.items ≡ out.old.items ++ device_line name.now opened.now) }
 {
@@ -98,7 +98,7 @@ fn put_device(
     out: &mut Vec<u8>,
     callers: &[ImageName],
     name: &ImageName,
-    opened: &OpenedDevice,
+    opened: &OpenDevice,
     device: &Device,
 ) -> Result<(), OutOfMemory>
     ensures { OnOk result (out.new.items ≡ out.old.items ++ device_part callers.now (name.now, (opened.now, device.now))) }
@@ -112,7 +112,7 @@ pub fn put_devices(
     out: &mut Vec<u8>,
     callers: &[ImageName],
     names: &[ImageName],
-    opened: &[OpenedDevice],
+    opened: &[OpenDevice],
     devices: &[Device],
 ) -> Result<(), OutOfMemory>
     ensures { OnOk result (out.new.items ≡ out.old.items ++ devices_part callers.now (zip names.now (zip opened.now devices.now))) }

@@ -16,5 +16,5 @@ mod run;
 mod tests;
 mod text;
 
-pub use run::{OpenedDevice, Opening, Run};
+pub use run::{OpenDevice, Opening, Run};
 pub use text::report;

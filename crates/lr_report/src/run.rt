@@ -13,7 +13,7 @@ use std::sync::Arc;
 /// What a `device` line opened: its image, the length of the image in bytes, padded to whole pages, and the manifest that was leased, which
 /// names its chunks.
 #[derive(Drop)]
-pub struct OpenedDevice {
+pub struct OpenDevice {
     pub image: ImageName,
     pub length: u64,
     pub manifest: Arc<Manifest>,
@@ -22,7 +22,7 @@ pub struct OpenedDevice {
 /// What the `device` lines of a script opened, in their order.
 #[derive(Drop)]
 pub struct Opening {
-    pub devices: Vec<OpenedDevice>,
+    pub devices: Vec<OpenDevice>,
 }
 
 /// What was run: the script that was read, and what is left of its actors and of all that they called.

@@ -1,5 +1,5 @@
 //! The report of a small run.
-use crate::{OpenedDevice, Opening, Run, report};
+use crate::{OpenDevice, Opening, Run, report};
 use lr_actors::{ActorState, Trail};
 use lr_depot::{Depot, DepotCall, DepotLog};
 use lr_device::{Bytes, Device, DeviceCall, DeviceStep, Room};
@@ -155,7 +155,7 @@ fn run(alloc: Global) -> Result<Run, Fail> {
     let Some(image) = ImageName::parse(b"a") else {
         return Err("a name".into());
     };
-    let opened = OpenedDevice {
+    let opened = OpenDevice {
         image,
         length: 4096,
         manifest: manifest(alloc)?,

@@ -1,4 +1,4 @@
-//! The program `lr_smallscope`: every sequence of four or five calls on a depot over three roots and two images.
+//! The program `lr_smallscope`: every sequence of up to five calls on a depot over three roots and two images.
 //!
 //! From each of some starts it makes all sequences of up to so many calls by two callers, of which one store call may
 //! fail, with and without effect. After each call it judges the view and the store by rules of its own, counts the store
@@ -64,9 +64,9 @@ const MOVED: &[Move] = &[
 // The starts, and how many calls are made after each.
 const STARTS: &[(&str, &[Move], u32)] = &[
     ("empty", EMPTY, 5),
-    ("rotated", ROTATED, 4),
+    ("rotated", ROTATED, 5),
     ("leased", LEASED, 5),
-    ("moved", MOVED, 4),
+    ("moved", MOVED, 5),
 ];
 
 // Whether all sequences from a start keep the rules. Prints what it saw.

@@ -1,5 +1,5 @@
 -- the record of a command
-use Rattle.std.proofs.Common.{◌≡◌, List, [], Bool, true, false, IsTrue, refl, sym, ap, ◌∙◌, subst}
+use Rattle.std.proofs.Common.{◌≡◌, [], Bool, true, false, IsTrue, refl, sym, ap, ◌∙◌, subst}
 use Rattle.std.specs.Prelude.{⊤}
 use Rattle.lr_report.specs.declared.run.Run.{Run}
 use Rattle.lr_depot.specs.Left.{Left}

@@ -1,5 +1,5 @@
 -- what a play did
-use Rattle.std.proofs.Common.{◌≡◌, ◌++◌, ℕ, List, [], Option, Some, refl, sym, ap, subst, ◌∙◌}
+use Rattle.std.proofs.Common.{◌≡◌, ℕ, List, [], Option, Some, sym, ap, subst, ◌∙◌}
 use Rattle.lr_spec.specs.Told.{Told}
 use Rattle.lr_origin.specs.Objects.{Objects}
 use Rattle.lr_roots.specs.Roots.{IsHomed}
@@ -16,9 +16,8 @@ use Rattle.lr_actors.specs.declared.place.Parts.{Parts}
 use Rattle.lr_actors.specs.declared.place.Context.{Context}
 use Rattle.lr_actors.specs.declared.trail.Trail.{Trail}
 use Rattle.lr_prepare.specs.Prepared.{IsPrepared}
-use Rattle.lr_headline.specs.Closing.{Closing}
 use Rattle.lr_headline.specs.Headline.{RunsServe, RunsFollow}
-use Rattle.lr_play.specs.Played.{closing_of, IsPlayed}
+use Rattle.lr_play.specs.Played.{IsPlayed}
 use Rattle.lr_report.specs.declared.run.Run.{Run}
 use Rattle.lr_top.specs.Played.{AreOpened, PlayedFrom, HasPlayed, left_of, Headline}
 

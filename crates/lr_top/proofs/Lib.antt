@@ -1,5 +1,6 @@
 mod Acting
 mod Desking
+mod Giving
 mod Headlines
 mod Meeting
 mod OneWord

@@ -1,5 +1,5 @@
 -- where a play's end comes, and where it must come
-use Rattle.std.proofs.Common.{◌≡◌, ◌≢◌, ◌≤◌, ◌+◌, ◌^◌, ℕ, List, [], ◌∷◌, Option, Some, None, refl, sym, ap, subst, ◌∙◌, inl, inr, arith}
+use Rattle.std.proofs.Common.{◌≡◌, ◌≢◌, ◌^◌, ℕ, List, Option, Some, None, refl, sym, subst, ◌∙◌, inl, inr, arith}
 use Rattle.std.specs.Prelude.{◌⊎◌}
 use Rattle.lr_spec.specs.Rose.{Rose}
 use Rattle.lr_spec.specs.Told.{Told}
@@ -7,9 +7,9 @@ use Rattle.lr_origin.specs.Objects.{Objects}
 use Rattle.lr_origin.specs.declared.key.KeyKind.{KeyKind}
 use Rattle.lr_opening.specs.declared.cause.StartCause.{StartCause}
 use Rattle.lr_opening.specs.declared.cause.StartCause.TheVariants as cause
-use Rattle.lr_opening.specs.Cause.{IsRead, IsCause}
+use Rattle.lr_opening.specs.Cause.{IsCause}
 use Rattle.lr_opening.specs.Listing.{HasFewer, HasMany}
-use Rattle.lr_opening.specs.Store.{HasChunks, IsForeignKey, IsSoundStore}
+use Rattle.lr_opening.specs.Store.{IsForeignKey}
 use Rattle.lr_opening.proofs.Bounded.{fewer_not_many}
 use Rattle.lr_opening.proofs.Views.{sound_store_is_not_foreign}
 use Rattle.lr_roots.specs.Names.{IsOneOf}
@@ -20,13 +20,10 @@ use Rattle.lr_depot.specs.Machine.{LogEntry}
 use Rattle.lr_depot.specs.Store.{Covers}
 use Rattle.lr_walk.specs.Depot.{Reply, no_image, no_root, taken, doubt, full, roots_end, fault, spoiled, seen_reply, seen_told}
 use Rattle.lr_images.specs.Answered.{IsUnspoiled}
-use Rattle.lr_script.specs.Seen.{ScriptSeen}
-use Rattle.lr_script.specs.Grammar.{Spells}
 use Rattle.lr_script.proofs.Unique.{not_both}
-use Rattle.lr_desk.specs.declared.outcome.Outcome.{Outcome}
-use Rattle.lr_desk.specs.declared.outcome.Outcome.TheVariants.{Done, Usage, ReadFault, WriteFault, OriginFault, Memory, Refused, Foreign, Spoiled, TooMany}
+use Rattle.lr_desk.specs.declared.outcome.Outcome.TheVariants.{OriginFault}
 use Rattle.lr_desk.specs.Causes.{cause_of}
-use Rattle.lr_desk.specs.Ends.{outcome_of, failure, IsWritten}
+use Rattle.lr_desk.specs.Ends.{outcome_of, failure}
 use Rattle.lr_desk.proofs.Answering.{rose_by}
 use Rattle.lr_prepare.specs.declared.error.SetupError.{SetupError}
 use Rattle.lr_prepare.specs.declared.error.SetupError.TheVariants as setup
@@ -34,8 +31,7 @@ use Rattle.lr_prepare.specs.Stopped.{Refuses, IsFault}
 use Rattle.lr_prepare.specs.Told.{IsOfDepot, Makes}
 use Rattle.lr_top.specs.declared.input.InputError.{InputError}
 use Rattle.lr_top.specs.declared.input.InputError.TheVariants as input
-use Rattle.lr_top.specs.declared.ends.PlayEnd.{PlayEnd}
-use Rattle.lr_top.specs.declared.ends.PlayEnd.TheVariants.{By, OutsideAt, RefusedAt}
+use Rattle.lr_top.specs.declared.ends.PlayEnd.TheVariants.{By}
 use Rattle.lr_top.specs.Ends.{status_of}
 use Rattle.lr_top.specs.Input.{IfOutside}
 use Rattle.lr_top.specs.Top.{IsOutsideAt, Met, unread_end, at_line, end_of, Comes, IsUnbegun, IsForeignEnd, IsManyEnd, IsComplete, Completes, IsExact}

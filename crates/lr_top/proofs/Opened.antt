@@ -1,8 +1,7 @@
 -- what device lines opened
-use Rattle.std.proofs.Common.{◌≡◌, ◌<◌, ◌+◌, ℕ, zero, suc, List, [], ◌∷◌, ◌++◌, length, map, take, get_or, Option, Some, None, slice_get, option_map, refl, sym, ap, subst, ◌∙◌, inl, inr, add-one, append-nil, arith, length-append}
+use Rattle.std.proofs.Common.{◌≡◌, ◌<◌, ◌+◌, ℕ, zero, suc, List, [], ◌∷◌, ◌++◌, length, map, take, get_or, Some, slice_get, option_map, refl, sym, ap, subst, ◌∙◌, inl, inr, add-one, append-nil, length-append}
 use Rattle.std.specs.Prelude.{◌⊎◌}
 use Rattle.std.specs.Arc.{arc_value}
-use Rattle.std.specs.List.{flat_map}
 use Rattle.std.proofs.Math.Seq.{take-suc}
 use Rattle.std.proofs.lemmas.List.{length-map, map-append}
 use Rattle.std.proofs.lemmas.List.Concat.{flat_map-append}
@@ -21,9 +20,9 @@ use Rattle.lr_actors.specs.Places.{seen_place}
 use Rattle.lr_prepare.specs.Lines.{seen_lines, unnumbered, IsDoneAs, AreDoneAs}
 use Rattle.lr_prepare.specs.New.{new_device, place_at, kept_manifests}
 use Rattle.lr_prepare.specs.Prepared.{IsPrepared}
-use Rattle.lr_report.specs.declared.run.OpenedDevice.{OpenedDevice}
+use Rattle.lr_report.specs.declared.run.OpenDevice.{OpenDevice}
 use Rattle.lr_top.specs.Opening.{image_opened, images_opened, IsOpenedAs, AreOpened}
-use Rattle.lr_top.specs.Played.{IsOpened, AreOpened as HaveOpened}
+use Rattle.lr_top.specs.Played.{AreOpened as HaveOpened}
 
 -- ---- the images of device lines
 
@@ -56,22 +55,22 @@ get_push (y ∷ xs) x (suc i) o e = by (get_push xs x i o e)
     by (inr h) = inr (ap suc h.0, h.1)
 
 -- the devices of the first images
-pub record HasOpened (at : ℕ) (images : List (List ℕ)) (devices : List device.Seen) (places : List DevicePlace) (opened : List OpenedDevice) : Type 0 where
+pub record HasOpened (at : ℕ) (images : List (List ℕ)) (devices : List device.Seen) (places : List DevicePlace) (opened : List OpenDevice) : Type 0 where
   pub many : length opened ≡ at
-  pub each : (i : ℕ) (o : OpenedDevice) → slice_get opened i ≡ Some o → (image : List ℕ) × (d : device.Seen) × (place : DevicePlace)
+  pub each : (i : ℕ) (o : OpenDevice) → slice_get opened i ≡ Some o → (image : List ℕ) × (d : device.Seen) × (place : DevicePlace)
       × (slice_get images i ≡ Some image) × (slice_get devices i ≡ Some d) × (slice_get places i ≡ Some place) × IsOpenedAs image d place o
 
 pub none_opened : (images : List (List ℕ)) (devices : List device.Seen) (places : List DevicePlace) → HasOpened 0 images devices places []
 none_opened images devices places = record { many = refl; each = λ i o e. absurd (cc) }
 
-pub one_opened : (at : ℕ) (images : List (List ℕ)) (devices : List device.Seen) (places : List DevicePlace) (opened : List OpenedDevice) (image : List ℕ) (d : device.Seen) (place : DevicePlace) (o : OpenedDevice) → HasOpened at images devices places opened
+pub one_opened : (at : ℕ) (images : List (List ℕ)) (devices : List device.Seen) (places : List DevicePlace) (opened : List OpenDevice) (image : List ℕ) (d : device.Seen) (place : DevicePlace) (o : OpenDevice) → HasOpened at images devices places opened
     → slice_get images at ≡ Some image → slice_get devices at ≡ Some d → slice_get places at ≡ Some place → IsOpenedAs image d place o → HasOpened (at + 1) images devices places (opened ++ o ∷ [])
 one_opened at images devices places opened image d place o h a b c is = record {
   many = length-append opened (o ∷ []) ∙ ap (λ (n : ℕ). n + 1) h.many;
   each = λ i q e. by i q (get_push opened o i q e);
 }
   where
-    by : (i : ℕ) (q : OpenedDevice) → (slice_get opened i ≡ Some q) ⊎ ((i ≡ length opened) × (o ≡ q)) → (image : List ℕ) × (d : device.Seen) × (place : DevicePlace)
+    by : (i : ℕ) (q : OpenDevice) → (slice_get opened i ≡ Some q) ⊎ ((i ≡ length opened) × (o ≡ q)) → (image : List ℕ) × (d : device.Seen) × (place : DevicePlace)
         × (slice_get images i ≡ Some image) × (slice_get devices i ≡ Some d) × (slice_get places i ≡ Some place) × IsOpenedAs image d place q
     by i q (inl e) = h.each i q e
     by i q (inr e) =
@@ -85,7 +84,7 @@ one_opened at images devices places opened image d place o h a b c is = record {
           subst (IsOpenedAs image d place) e.1 is,
         )
 
-pub all_opened : (at : ℕ) (images : List (List ℕ)) (devices : List device.Seen) (places : List DevicePlace) (opened : List OpenedDevice) → at ≡ length images → HasOpened at images devices places opened → AreOpened images devices places opened
+pub all_opened : (at : ℕ) (images : List (List ℕ)) (devices : List device.Seen) (places : List DevicePlace) (opened : List OpenDevice) → at ≡ length images → HasOpened at images devices places opened → AreOpened images devices places opened
 all_opened at images devices places opened all h = record { many = h.many ∙ all; each = h.each }
 
 -- ---- of a script whose setup was done
@@ -134,7 +133,7 @@ module _ {O : Type 0} (script : ScriptSeen) (first : Seen O) (parts : Parts O) (
   at_of : {A B : Type 0} (f : A → B) (xs : List A) (i : ℕ) (x : A) (y : B) → slice_get xs i ≡ Some x → slice_get (map f xs) i ≡ Some y → y ≡ f x
   at_of f xs i x y a b = let e : Some (f x) ≡ Some y = sym (ap (option_map f) a) ∙ (sym (slice_get-map f xs i) ∙ b) in cc
 
-  pub have_opened : (opened : List OpenedDevice) → AreOpened (images_opened script.setup) parts.devices.items context.devices.items opened → HaveOpened (devices_of p.lines) opened
+  pub have_opened : (opened : List OpenDevice) → AreOpened (images_opened script.setup) parts.devices.items context.devices.items opened → HaveOpened (devices_of p.lines) opened
   have_opened opened h = record {
     many = h.many ∙ (ap length (sym (images_done script.setup p.lines p.are)) ∙ length-map (devices_of p.lines) (λ (d : DeviceLine). d.image));
     each = λ i o e.

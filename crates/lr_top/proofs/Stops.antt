@@ -1,5 +1,5 @@
 -- where no line stopped the setup
-use Rattle.std.proofs.Common.{◌≡◌, [], append-nil, refl, sym}
+use Rattle.std.proofs.Common.{[], append-nil, refl, sym}
 use Rattle.lr_depot.specs.Depot.{Seen}
 use Rattle.lr_script.specs.Seen.{ScriptSeen}
 use Rattle.lr_actors.specs.declared.place.Parts.{Parts}

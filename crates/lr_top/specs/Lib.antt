@@ -4,3 +4,4 @@ pub mod Input
 pub mod Top
 pub mod Played
 pub mod Acts
+pub mod Gives

@@ -22,18 +22,18 @@ use Rattle.lr_headline.specs.Closing.{Closing, run_of}
 use Rattle.lr_headline.specs.Headline.{bare, Follows}
 use Rattle.lr_play.specs.Played.{closing_of, IsPlayed}
 use Rattle.lr_report.specs.declared.run.Run.{Run}
-use Rattle.lr_report.specs.declared.run.OpenedDevice.{OpenedDevice}
+use Rattle.lr_report.specs.declared.run.OpenDevice.{OpenDevice}
 
 -- what a device line opened: its image, its padded bytes, and its manifest, which names its chunks
-pub record IsOpened (line : DeviceLine) (o : OpenedDevice) : Type 0 where
+pub record IsOpened (line : DeviceLine) (o : OpenDevice) : Type 0 where
   pub image : o.image ≡ line.image
   pub length : o.length ≡ padded_length line.manifest.raw_len
   pub manifest : arc_value o.manifest ≡ line.manifest
 
 -- .. for each device line
-pub record AreOpened (lines : List DeviceLine) (opened : List OpenedDevice) : Type 0 where
+pub record AreOpened (lines : List DeviceLine) (opened : List OpenDevice) : Type 0 where
   pub many : length opened ≡ length lines
-  pub each : (i : ℕ) (o : OpenedDevice) → slice_get opened i ≡ Some o → (line : DeviceLine) × (slice_get lines i ≡ Some line) × IsOpened line o
+  pub each : (i : ℕ) (o : OpenDevice) → slice_get opened i ≡ Some o → (line : DeviceLine) × (slice_get lines i ≡ Some line) × IsOpened line o
 
 -- A play over a depot that was started: the script's setup lines were done, in order, as caller 0, and gave the parts; the actors played
 -- over them, and then the after part; the depot ended with what is handed back, and so did the other objects.

@@ -7,7 +7,7 @@ ghost use Rattle.lr_top.specs.Opening.{image_opened, images_opened, IsOpenedAs, 
 use lr_actors::DevicePlace;
 use lr_device::Device;
 use lr_origin::ImageName;
-use lr_report::{OpenedDevice, Opening};
+use lr_report::{OpenDevice, Opening};
 use lr_script::{Script, Setup};
 use lr_spec::OutOfMemory;
 use std::alloc::Global;
@@ -41,11 +41,11 @@ fn open_one(
     image: ImageName,
     device: &Device,
     place: &DevicePlace,
-) -> Result<OpenedDevice, OutOfMemory>
+) -> Result<OpenDevice, OutOfMemory>
     ensures { IfOk result (λ o. IsOpenedAs image device.now place.now o) }
 {
     let manifest = Arc::try_clone(&place.manifest)?;
-    Ok(OpenedDevice {
+    Ok(OpenDevice {
         image,
         length: device.size(),
         manifest,
@@ -58,7 +58,7 @@ fn open_each(
     images: &[ImageName],
     devices: &[Device],
     places: &[DevicePlace],
-) -> Result<Vec<OpenedDevice>, OutOfMemory>
+) -> Result<Vec<OpenDevice>, OutOfMemory>
     requires devices { length devices.now ≡ length images.now }
     requires places { length places.now ≡ length images.now }
     ensures { IfOk result (λ v. AreOpened images.now devices.now places.now v.items) }

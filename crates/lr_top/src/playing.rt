@@ -1,20 +1,17 @@
 //! Scripts that are played.
-ghost use Rattle.std.specs.Prelude.{◌≡◌, ◌≢◌, ◌≤◌, ◌⊎◌, ℕ, [], ⊤};
+ghost use Rattle.std.specs.Prelude.{◌≡◌, ◌≤◌, []};
 ghost use Rattle.lr_spec.specs.Rose.{Rose};
-ghost use Rattle.lr_spec.specs.Told.{Told};
-ghost use Rattle.lr_io.specs.Streams.{Appends, AppendsFront};
-ghost use Rattle.lr_script.specs.Grammar.{FirstOutside};
 ghost use Rattle.lr_script.specs.Within.{IsWithin};
 ghost use Rattle.lr_depot.specs.Depot.{Seen, IsStart, IsEnded};
 ghost use Rattle.lr_roots.specs.Catalog.{Seen as Catalog};
 ghost use Rattle.lr_prepare.specs.Prepared.{IsPrepared};
 ghost use Rattle.lr_report.specs.Report.{report_text};
 ghost use Rattle.lr_top.specs.Ends.{status_of, line_of};
-ghost use Rattle.lr_top.specs.Top.{IsReadAs, MatchRun, IfRun, IfCommand, unread_end, at_line, end_of, IsPlayedAs};
+ghost use Rattle.lr_top.specs.Top.{MatchRun, IfCommand, unread_end, at_line, end_of};
 ghost use Rattle.lr_top.specs.Acts.{EndsFrom};
+ghost use Rattle.lr_top.specs.Gives.{streams, Plays};
 ghost use Rattle.lr_desk.specs.Causes.{cause_of};
 ghost use Rattle.lr_desk.specs.Ends.{IsWritten};
-ghost use Rattle.lr_top.specs.Played.{HasPlayed, Headline};
 ghost use Rattle.lr_top.specs.declared.outcome.RunRecord.TheVariants as record_of;
 ghost use Rattle.lr_top.specs.declared.ends.PlayEnd.TheVariants as ends;
 ghost use Rattle.lr_desk.specs.declared.outcome.Outcome.{Outcome as AnyEnd};
@@ -230,16 +227,8 @@ pub fn play<O: Origin, I: Source, W: Sink>(
     sink: &mut W,
     origin: O,
 ) -> Outcome<O>
-    ensures answered { IsPlayedAs O.objects O.faults origin result.origin (λ script. IsReadAs (I.left source.old) script (I.left source.new)) (record { objects = O.objects origin; source = I.left source.old; origin_before = O.faults origin; origin_after = O.faults result.origin; source_before = I.faults source.old; source_after = I.faults source.new; sink_before = W.faults sink.old; sink_after = W.faults sink.new }) result.run result.status result.line }
-    ensures only { Told (I.left source.old) (λ xs. (n : ℕ) → FirstOutside xs n → (result.status ≡ 3) ⊎ ((result.status ≡ 4) ⊎ (result.status ≡ 7))) }
-    ensures script { IfRun result.run (λ run. IsReadAs (I.left source.old) run.script (I.left source.new)) }
-    ensures served { IfRun result.run (λ run. (p : HasPlayed O.objects O.faults origin result.origin run) × Headline O.objects O.faults origin result.origin run p) }
-    ensures reported { IfRun result.run (λ run. result.status ≡ 0 → Appends (W.written sink.old) (report_text run) (W.written sink.new)) }
-    ensures front { IfRun result.run (λ run. AppendsFront (W.written sink.old) (report_text run) (W.written sink.new)) }
-    ensures unstarted { MatchRun result.run ((result.status ≢ 0) × (result.status ≢ 5) × (W.written sink.new ≡ W.written sink.old)) (λ _. ⊤) }
-    ensures kept { MatchRun result.run (O.objects result.origin ≡ O.objects origin) (λ _. ⊤) }
+    ensures plays { Plays O.objects O.faults origin result.origin (streams I.left I.faults W.written W.faults source.old source.new sink.old sink.new) result.run result.status result.line }
     ensures never_falls { O.faults origin ≤ O.faults result.origin }
-    ensures stopped { IfCommand result.run (λ _. (result.status ≢ 0) × (result.status ≢ 5) × (W.written sink.new ≡ W.written sink.old)) }
 {
     plays_have_the_headline::<O>();
     answers_are_told();

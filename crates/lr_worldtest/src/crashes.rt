@@ -31,8 +31,9 @@ fn trails_of(
     step: u64,
     schedule: &'static str,
 ) -> Result<Vec<Trail>, Fail> {
-    let crash = format!(in alloc; "crash p {step}")?;
-    let text = script_of(alloc, &[lines, &[crash.as_str(), schedule]])?;
+    let mut text = script_of(alloc, lines)?;
+    let end = format!(in alloc; "crash p {step}\n{schedule}\n")?;
+    text.extend_from_slice(end.as_bytes())?;
     let Performed { mut parts, trails } = played(alloc, MemOrigin::new(alloc), &text)?;
     expect_nothing_out(alloc, &mut parts, 2)?;
     Ok(trails)

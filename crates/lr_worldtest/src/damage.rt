@@ -1,5 +1,7 @@
 //! Reads after an eviction, with damage to the stripes before it.
-use crate::drive::{Ended, expect_nothing_out, fetches, good_reads, played, results, script_of};
+use crate::drive::{
+    Ended, add_lines, expect_nothing_out, fetches, good_reads, played, results, script_of,
+};
 use lr_origin::MemOrigin;
 use lr_play::Performed;
 use std::alloc::Global;
@@ -31,10 +33,9 @@ const ROWS: &[Row] = &[
 
 // How often the depot is asked for the chunk by a read, damage, an eviction, and a read again.
 fn fetched(alloc: Global, row: &Row) -> Result<u64, Fail> {
-    let text = script_of(
-        alloc,
-        &[&["read d 0 512"], row.0, &["evict h", "read d 0 512"]],
-    )?;
+    let mut text = script_of(alloc, &["read d 0 512"])?;
+    add_lines(&mut text, row.0)?;
+    add_lines(&mut text, &["evict h", "read d 0 512"])?;
     let Performed { mut parts, trails } = played(alloc, MemOrigin::new(alloc), &text)?;
     expect_nothing_out(alloc, &mut parts, 1)?;
     let mut ends = Vec::from_slice(alloc, &[("done", 0u64)])?;

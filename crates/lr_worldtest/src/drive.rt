@@ -38,8 +38,8 @@ pub(crate) const ROTATE: &str =
 pub(crate) const CREATE: &str =
     "create b bbbbbbbbbbbbbbbbbbbbbbbbbbbbbbbbbbbbbbbbbbbbbbbbbbbbbbbbbbbbbbbb 5000 bytes 1x43";
 
-// Adds lines, each with its end.
-fn add_lines(text: &mut Vec<u8>, lines: &[&str]) -> Result<(), Fail> {
+/// Adds lines, each with its end.
+pub(crate) fn add_lines(text: &mut Vec<u8>, lines: &[&str]) -> Result<(), Fail> {
     for line in lines {
         text.extend_from_slice(line.as_bytes())?;
         text.push(b'\n')?;
@@ -47,13 +47,11 @@ fn add_lines(text: &mut Vec<u8>, lines: &[&str]) -> Result<(), Fail> {
     Ok(())
 }
 
-/// The setup, and the parts that follow it.
-pub(crate) fn script_of(alloc: Global, parts: &[&[&str]]) -> Result<Vec<u8>, Fail> {
+/// The setup, and the lines that follow it.
+pub(crate) fn script_of(alloc: Global, lines: &[&str]) -> Result<Vec<u8>, Fail> {
     let mut text = Vec::new(alloc);
     add_lines(&mut text, SETUP)?;
-    for part in parts {
-        add_lines(&mut text, *part)?;
-    }
+    add_lines(&mut text, lines)?;
     Ok(text)
 }
 

@@ -110,7 +110,7 @@ fn ends_so<O: Origin + Drop>(
     lines: &[&str],
     ends: &[Ended],
 ) -> Result<bool, Fail> {
-    let text = script_of(alloc, &[lines])?;
+    let text = script_of(alloc, lines)?;
     let Performed { mut parts, trails } = played(alloc, origin, &text)?;
     expect_nothing_out(alloc, &mut parts, 2)?;
     let came = results(alloc, &trails)?;

@@ -2,19 +2,19 @@ use Rattle.std.proofs.Common.{◌≡◌, ◌<◌, ◌≤◌, ℕ, List, length, 
 use Rattle.std.specs.List.{zip}
 use Rattle.std.proofs.lemmas.Slice.Zip.{length-zip, get_or-zip}
 use Rattle.lr_device.specs.Held.{Seen}
-use Rattle.lr_report.specs.declared.run.OpenedDevice.{OpenedDevice}
+use Rattle.lr_report.specs.declared.run.OpenDevice.{OpenDevice}
 use Rattle.lr_report.specs.Report.{device_part, devices_part}
 use Rattle.lr_report.proofs.Zipped.{pair_more, pairs_all}
 use Rattle.lr_report.proofs.devices.put_devices.Goals as goal
 
 -- the pair at a place of both lists
-beside : (os : List OpenedDevice) (ds : List Seen) (at : ℕ) (o : OpenedDevice) (d : Seen) → at < length os → at < length ds → o ≡ get_or os at o → d ≡ get_or ds at d → (o, d) ≡ get_or (zip os ds) at (o, d)
+beside : (os : List OpenDevice) (ds : List Seen) (at : ℕ) (o : OpenDevice) (d : Seen) → at < length os → at < length ds → o ≡ get_or os at o → d ≡ get_or ds at d → (o, d) ≡ get_or (zip os ds) at (o, d)
 beside os ds at o d first second iso isd = (λ i. (iso i, isd i)) ∙ sym (get_or-zip os ds at (o, d) first second)
 
-shorter : (os : List OpenedDevice) (ds : List Seen) (at : ℕ) → at < length os → at < length ds → at < length (zip os ds)
+shorter : (os : List OpenDevice) (ds : List Seen) (at : ℕ) → at < length os → at < length ds → at < length (zip os ds)
 shorter os ds at first second = subst (λ (n : ℕ). at < n) (sym (length-zip os ds)) (omega arith)
 
-past : (names : List (List ℕ)) (os : List OpenedDevice) (ds : List Seen) (at : ℕ) → min (length names) (min (length os) (length ds)) ≤ at → min (length names) (length (zip os ds)) ≤ at
+past : (names : List (List ℕ)) (os : List OpenDevice) (ds : List Seen) (at : ℕ) → min (length names) (min (length os) (length ds)) ≤ at → min (length names) (length (zip os ds)) ≤ at
 past names os ds at h = subst (λ (n : ℕ). min (length names) n ≤ at) (sym (length-zip os ds)) h
 
 pub returns-in_default : goal.returns-in_default

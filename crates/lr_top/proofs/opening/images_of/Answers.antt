@@ -1,4 +1,4 @@
-use Rattle.std.proofs.Common.{◌<◌, ◌++◌, List, ℕ, length, ap, sym, ◌∙◌, arith}
+use Rattle.std.proofs.Common.{◌++◌, List, ℕ, ap, sym, ◌∙◌, arith}
 use Rattle.lr_script.specs.Seen.{setup_seen}
 use Rattle.lr_top.specs.Opening.{image_opened, images_opened}
 use Rattle.lr_top.proofs.Opened.{images_more}

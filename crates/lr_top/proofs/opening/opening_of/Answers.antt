@@ -1,4 +1,4 @@
-use Rattle.std.proofs.Common.{◌≡◌, List, length, ap, sym, ◌∙◌}
+use Rattle.std.proofs.Common.{◌≡◌, length, ap, sym, ◌∙◌}
 use Rattle.lr_script.specs.Seen.{ScriptSeen}
 use Rattle.lr_prepare.specs.Lines.{seen_lines}
 use Rattle.lr_top.specs.Opening.{images_opened}

@@ -2,7 +2,6 @@ use Rattle.std.proofs.Common.{◌≡◌, ◌≤◌, List, length, refl, sym, ap,
 use Rattle.lr_device.specs.Held as device
 use Rattle.lr_depot.specs.Depot.{IsEnded}
 use Rattle.lr_actors.specs.declared.place.DevicePlace.{DevicePlace}
-use Rattle.lr_actors.specs.declared.place.Parts.{Parts}
 use Rattle.lr_prepare.specs.declared.error.SetupError.TheVariants.{OutOfMemory}
 use Rattle.lr_prepare.specs.Stopped.{IsLeft}
 use Rattle.lr_report.specs.declared.run.Opening.{Opening}

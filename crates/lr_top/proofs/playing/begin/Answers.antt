@@ -1,4 +1,4 @@
-use Rattle.std.proofs.Common.{◌≤◌, refl, arith}
+use Rattle.std.proofs.Common.{refl, arith}
 use Rattle.lr_top.proofs.Acting.{stopped_from}
 use Rattle.lr_top.proofs.playing.begin.Goals as goal
 

@@ -1,5 +1,3 @@
-use Rattle.std.proofs.Common.{◌≡◌, List, ℕ, subst}
-use Rattle.lr_desk.specs.Ends.{IsWritten}
 use Rattle.lr_report.specs.Report.{report_text}
 use Rattle.lr_top.proofs.Reported.{none_written}
 use Rattle.lr_top.proofs.playing.write_report.Goals as goal
