@@ -8,6 +8,10 @@
 mod cast;
 mod laws;
 mod play;
+#[cfg(test)]
+mod short;
+#[cfg(test)]
+mod tests;
 
 pub use laws::jobs_may_be_given;
 pub use play::{Performed, Unperformed, perform};

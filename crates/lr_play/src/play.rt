@@ -36,7 +36,7 @@ pub struct Unperformed<O: Origin> {
 }
 
 // Puts the trails of these actors behind those that are there.
-fn trails_of(trails: &mut Vec<Trail>, actors: Vec<Actor>)
+pub(crate) fn trails_of(trails: &mut Vec<Trail>, actors: Vec<Actor>)
     requires { vec_len trails.old + vec_len actors ≤ vec_capacity trails.old }
     ensures trails { (more : List Told) × (trails.new.items ≡ trails.old.items ++ more) × AllZip IsTrailOf actors.items more }
     ensures len { vec_len trails.new ≡ vec_len trails.old + vec_len actors }
@@ -50,7 +50,7 @@ fn trails_of(trails: &mut Vec<Trail>, actors: Vec<Actor>)
 }
 
 // New actors play over the parts, and their trails go behind those that are there.
-fn act<O: Origin>(
+pub(crate) fn act<O: Origin>(
     alloc: Global,
     schedule: &Schedule,
     parts: Parts<O>,

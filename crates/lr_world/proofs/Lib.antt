@@ -1,4 +1,5 @@
 mod Places
+mod Wanting
 mod Held
 mod Taken
 mod Nearing

@@ -1,13 +1,11 @@
 -- A creation and a migration end the session that they begin, and each of their calls fits it.
-use Rattle.std.proofs.Common.{◌≡◌, ℕ, zero, suc, List, [], ◌∷◌, ◌++◌, length, map, Option, Some, None, Bool, true, false, slice_get, refl, ap, sym, subst, ◌∙◌, inl, inr, append_assoc, append-nil}
+use Rattle.std.proofs.Common.{◌≡◌, ℕ, zero, suc, List, [], ◌∷◌, ◌++◌, length, map, Option, Some, None, refl, ap, sym, subst, ◌∙◌, inl, inr, append_assoc, append-nil}
 use Rattle.std.specs.Prelude.{◌⊎◌, ⊤}
 use Rattle.std.proofs.lemmas.List.Sums.{fold-append}
 use Rattle.lr_manifest.specs.declared.name.Name.{Name}
 use Rattle.lr_creator.specs.declared.create.Place.{Place}
 use Rattle.lr_creator.specs.Creation as creations
-use Rattle.lr_creator.specs.Progress as creating
 use Rattle.lr_migrator.specs.Migration as migrations
-use Rattle.lr_migrator.specs.Progress as migrating
 use Rattle.lr_collector.specs.Progress as collecting
 use Rattle.lr_collector.specs.declared.collect.CollectJob.{CollectJob}
 use Rattle.lr_collector.specs.declared.collect.CollectJob.TheVariants as collect

@@ -1,6 +1,6 @@
 -- The sessions of actors after a step.
-use Rattle.std.proofs.Common.{◌≡◌, ◌<◌, ◌≤◌, ◌+◌, ℕ, List, [], ◌∷◌, ◌++◌, length, Bool, true, false, Option, Some, None, slice_get, refl, ap, sym, subst, ◌∙◌, inl, inr, arith, le-ltb, ltb-false}
-use Rattle.std.specs.Prelude.{◌≢◌, ◌⊎◌, ⊤, nat_lt, if◌then◌else◌}
+use Rattle.std.proofs.Common.{◌≡◌, ◌≤◌, ◌+◌, ℕ, List, [], ◌∷◌, ◌++◌, length, Bool, true, false, Some, None, refl, ap, sym, subst, ◌∙◌, inl, inr, arith, le-ltb, ltb-false}
+use Rattle.std.specs.Prelude.{◌≢◌, ◌⊎◌, nat_lt, if◌then◌else◌}
 use Rattle.lr_object.specs.declared.id.ObjectId.{ObjectId}
 use Rattle.lr_object.specs.declared.id.ObjectId.TheVariants.{Depot}
 use Rattle.lr_device.specs.declared.step.DeviceStep.TheVariants as asks
@@ -12,7 +12,7 @@ use Rattle.lr_depot.specs.declared.call.DepotReply.TheVariants.{Began, Moving}
 use Rattle.lr_depot.specs.Depot.{state}
 use Rattle.lr_walk.specs.declared.trail.Answer.{Answer}
 use Rattle.lr_walk.specs.Stands.{IsFront}
-use Rattle.lr_walk.specs.Steps.{on_depot, Reply, by_device, by_cache, by_node, by_depot, Step, step}
+use Rattle.lr_walk.specs.Steps.{on_depot, by_device, by_cache, by_node, by_depot, Step, step}
 use Rattle.lr_walk.specs.Device as devices
 use Rattle.lr_walk.specs.Cache as caches
 use Rattle.lr_walk.specs.Node as nodes
@@ -28,7 +28,6 @@ use Rattle.lr_actors.specs.declared.running.Running.{Running}
 use Rattle.lr_actors.specs.Asked.{Asked, a_call, HandsCall, Adds, seen_reply}
 use Rattle.lr_actors.specs.Running as running
 use Rattle.lr_actors.specs.Running.{Task, Walk, task_of}
-use Rattle.lr_actors.specs.Begun.{IsTaskOf}
 use Rattle.lr_actors.specs.Jobs as jobs
 use Rattle.lr_actors.specs.Jobs.{WalksJob}
 use Rattle.lr_actors.specs.Actor as actor

@@ -10,10 +10,11 @@ ghost use Rattle.lr_nodes.specs.Machine as node;
 ghost use Rattle.lr_actors.specs.Asked.{MayCall};
 ghost use Rattle.lr_replies.specs.Objects.{LogsAt, Calls};
 ghost use Rattle.lr_world.specs.World.{Keeps};
-ghost use Rattle.lr_world.specs.Calling.{objects_in, IsThere, AtDevice, AtCache, AtNode};
+ghost use Rattle.lr_world.specs.Calling.{objects_in, IsThere, AtDevice, AtCache, AtNode, memory_of};
 
 use lr_actors::{ActorCall, ActorReply, Parts};
 use lr_cache::{Cache, CacheCall, CacheReply};
+use lr_depot::{DepotCall, DepotReply};
 use lr_device::{Device, DeviceAnswer, DeviceStep};
 use lr_nodes::{Node, NodeCall, NodeReply};
 use lr_object::Object;
@@ -85,4 +86,43 @@ pub(crate) fn serve<O: Origin>(
         }
         ActorCall::Depot(call) => ActorReply::Depot(parts.depot.apply(alloc, caller, call)),
     }
+}
+
+// What an object that finds no memory replies to a call, where the call may want some.
+fn memory_of(call: &ActorCall) -> Option<ActorReply>
+    ensures { result ≡ memory_of call.now }
+{
+    match call {
+        ActorCall::Device(_, DeviceStep::Plan(_)) => {
+            Some(ActorReply::Device(DeviceAnswer::OutOfMemory))
+        }
+        ActorCall::Device(..) => None,
+        ActorCall::Cache(_, CacheCall::GiveUp | CacheCall::Reap) => None,
+        ActorCall::Cache(..) => Some(ActorReply::Cache(CacheReply::OutOfMemory)),
+        ActorCall::Node(..) => Some(ActorReply::Node(NodeReply::OutOfMemory)),
+        ActorCall::Depot(DepotCall::Close { .. } | DepotCall::Abandon { .. } | DepotCall::Reap) =>
+            None,
+        ActorCall::Depot(_) => Some(ActorReply::Depot(DepotReply::OutOfMemory)),
+    }
+}
+
+/// As `serve`, but where it is to be short, the object finds no memory for a call that may want some.
+pub(crate) fn serve_or_want<O: Origin>(
+    parts: &mut Parts<O>,
+    alloc: Global,
+    caller: u32,
+    call: ActorCall,
+    short: bool,
+) -> ActorReply
+    requires there { IsThere parts.old call }
+    requires may { MayCall call }
+    ensures called { Calls caller call result (objects_in parts.old) (objects_in parts.new) }
+    ensures depot { Keeps O.objects O.faults call result caller parts.old.depot parts.new.depot }
+{
+    if short {
+        if let Some(reply) = memory_of(&call) {
+            return reply;
+        }
+    }
+    serve(parts, alloc, caller, call)
 }

@@ -9,7 +9,7 @@ ghost use Rattle.lr_world.specs.Runs.{Runs, InTurn, Round, InRounds, AllEnded, l
 ghost use Rattle.lr_world.specs.Working.{WorkedOut};
 ghost use Rattle.lr_world.specs.Bounded.{StaysWithin, AreBounded};
 
-use crate::calling::serve;
+use crate::calling::serve_or_want;
 use crate::laws::laws;
 use lr_actors::{Actor, ActorAction, Parts};
 use lr_origin::Origin;
@@ -74,8 +74,8 @@ impl<O: Origin> World<O> {
         World { parts, actors }
     }
 
-    // The actor at this place takes its turn.
-    fn take_turn(&mut self, alloc: Global, at: usize) -> Turn
+    // The actor at this place takes its turn. Where it is to be short, the called object finds no memory.
+    fn take_turn(&mut self, alloc: Global, at: usize, short: bool) -> Turn
         requires world { IsSomeWorld self.old }
         requires at { at < length self.old.actors.items }
         ensures { Turned O.objects O.faults (seen self.old) at result (seen self.new) }
@@ -90,7 +90,7 @@ impl<O: Origin> World<O> {
             }
             ActorAction::Call(call) => {
                 let number = actor.number();
-                let reply = serve(&mut self.parts, alloc, number, call);
+                let reply = serve_or_want(&mut self.parts, alloc, number, call, short);
                 actor.take(reply);
                 Turn::Event
             }
@@ -98,7 +98,7 @@ impl<O: Origin> World<O> {
     }
 
     // The world stays one, and comes nearer to its end.
-    fn turn(&mut self, alloc: Global, at: usize) -> Turn
+    fn turn(&mut self, alloc: Global, at: usize, short: bool) -> Turn
         requires world { IsSomeWorld self.old }
         requires at { at < length self.old.actors.items }
         ensures turned { Turned O.objects O.faults (seen self.old) at result (seen self.new) }
@@ -108,7 +108,7 @@ impl<O: Origin> World<O> {
         ensures others { LeavesActors at (seen self.old) (seen self.new) }
     {
         laws();
-        self.take_turn(alloc, at)
+        self.take_turn(alloc, at, short)
     }
 
     // The place of the actor of this number.
@@ -136,7 +136,20 @@ impl<O: Origin> World<O> {
         ensures cast { cast_of (seen self.new) ≡ cast_of (seen self.old) }
     {
         let at = self.place_of(actor);
-        told(self.turn(alloc, at))
+        told(self.turn(alloc, at, false))
+    }
+
+    /// As `step`, but the called object finds no memory, where the call may want some. Tests make memory want with it.
+    pub fn step_short(&mut self, alloc: Global, actor: u32) -> Stepped
+        requires world { IsSomeWorld self.old }
+        requires known { IsNumber (cast_of (seen self.old)) actor }
+        ensures steps { Steps O.objects O.faults (seen self.old) actor (seen self.new) }
+        ensures told { Tells (seen self.old) actor result }
+        ensures is { (context : Context) (hosts : ℕ) → IsWorld context hosts (seen self.old) → IsWorld context hosts (seen self.new) }
+        ensures cast { cast_of (seen self.new) ≡ cast_of (seen self.old) }
+    {
+        let at = self.place_of(actor);
+        told(self.turn(alloc, at, true))
     }
 
     // So many steps of one actor.
@@ -178,7 +191,7 @@ impl<O: Origin> World<O> {
         ensures others { LeavesActors at (seen self.old) (seen self.new) }
     {
         laws();
-        self.turn(alloc, at)
+        self.turn(alloc, at, false)
     }
 
     // The steps of one actor until it has ended.
@@ -219,7 +232,7 @@ impl<O: Origin> World<O> {
     {
         let mut moved = false;
         for at in 0..self.actors.len() {
-            moved = either(moved, self.turn(alloc, at));
+            moved = either(moved, self.turn(alloc, at, false));
         }
         moved
     }

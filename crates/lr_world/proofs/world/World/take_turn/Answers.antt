@@ -12,8 +12,8 @@ use Rattle.lr_world.proofs.world.World.take_turn.Goals as goal
 pub next-requires : goal.next-requires
 next-requires g c = (c.requires.world.2.actors c.args.at c.index_mut-actor.result.now (slice_get-get_or _ _ _ c.requires.at ∙ ap Some (sym c.index_mut-actor.ensures.value))).out
 
-pub serve-reply-requires-clause-there : goal.serve-reply-requires-clause-there
-serve-reply-requires-clause-there g c =
+pub serve_or_want-reply-requires-clause-there : goal.serve_or_want-reply-requires-clause-there
+serve_or_want-reply-requires-clause-there g c =
     let a : actor.Seen = c.index_mut-actor.result.now in
     let got : slice_get c.args.self.now.actors.items c.args.at ≡ Some a = slice_get-get_or _ _ _ c.requires.at ∙ ap Some (sym c.index_mut-actor.ensures.value) in
     within c.args.self.now a.context a.hosts c.in-Call.call (ready c.requires.world.0 c.requires.world.1 (seen c.args.self.now) c.args.at a c.requires.world.2 got).made (calls_now a.now a c.in-Call.call c.in-Call.ensures.hands).within
@@ -23,11 +23,11 @@ take-requires-clause-admitted g c =
     let a : actor.Seen = c.index_mut-actor.result.now in
     let got : slice_get c.args.self.now.actors.items c.args.at ≡ Some a = slice_get-get_or _ _ _ c.requires.at ∙ ap Some (sym c.index_mut-actor.ensures.value) in
     let number : c.number-number.result ≡ a.number = c.number-number.ensures ∙ ap (λ (x : actor.Seen). x.number) c.next.ensures.handed in
-    let called : Calls a.number c.in-Call.call c.serve-reply.result (objects_of (seen c.args.self.now)) (objects_of (seen_of c.serve-reply.new.parts c.args.self.now.actors)) =
-    subst (λ (n : ℕ). Calls n c.in-Call.call c.serve-reply.result (objects_of (seen c.args.self.now)) (objects_of (seen_of c.serve-reply.new.parts c.args.self.now.actors))) number c.serve-reply.ensures.called in
-    subst (λ (x : actor.Seen). Admits x (seen_reply c.serve-reply.result)) (sym c.next.ensures.handed)
-    (admits_handed a.now a (seen_reply c.serve-reply.result)
-    (c.laws.ensures.admitted (objects_of (seen c.args.self.now)) a c.in-Call.call c.serve-reply.result
+    let called : Calls a.number c.in-Call.call c.serve_or_want-reply.result (objects_of (seen c.args.self.now)) (objects_of (seen_of c.serve_or_want-reply.new.parts c.args.self.now.actors)) =
+    subst (λ (n : ℕ). Calls n c.in-Call.call c.serve_or_want-reply.result (objects_of (seen c.args.self.now)) (objects_of (seen_of c.serve_or_want-reply.new.parts c.args.self.now.actors))) number c.serve_or_want-reply.ensures.called in
+    subst (λ (x : actor.Seen). Admits x (seen_reply c.serve_or_want-reply.result)) (sym c.next.ensures.handed)
+    (admits_handed a.now a (seen_reply c.serve_or_want-reply.result)
+    (c.laws.ensures.admitted (objects_of (seen c.args.self.now)) a c.in-Call.call c.serve_or_want-reply.result
     (ready c.requires.world.0 c.requires.world.1 (seen c.args.self.now) c.args.at a c.requires.world.2 got) (calls_now a.now a c.in-Call.call c.in-Call.ensures.hands) called.replies))
 
 pub take-requires-clause-out : goal.take-requires-clause-out
@@ -54,14 +54,14 @@ returns-in-Call g c =
       a,
       got,
       event_now a.now a c.in-Call.call c.in-Call.ensures.hands,
-      steps_call g.O.Origin.objects g.O.Origin.faults a.now (seen c.args.self.now) c.args.at a c.in-Call.call c.serve-reply.result
-          (seen_of c.serve-reply.new.parts (with_item c.args.self.now.actors c.args.at c.take.new.self)) c.in-Call.ensures.hands
+      steps_call g.O.Origin.objects g.O.Origin.faults a.now (seen c.args.self.now) c.args.at a c.in-Call.call c.serve_or_want-reply.result
+          (seen_of c.serve_or_want-reply.new.parts (with_item c.args.self.now.actors c.args.at c.take.new.self)) c.in-Call.ensures.hands
           (record {
             after = c.take.new.self;
             asks = calls_now a.now a c.in-Call.call c.in-Call.ensures.hands;
-            called = subst (λ (n : ℕ). Calls n c.in-Call.call c.serve-reply.result (objects_of (seen c.args.self.now)) (objects_of (seen_of c.serve-reply.new.parts c.args.self.now.actors))) number c.serve-reply.ensures.called;
-            depot = subst (λ (n : ℕ). Keeps g.O.Origin.objects g.O.Origin.faults c.in-Call.call c.serve-reply.result n c.args.self.now.parts.depot c.serve-reply.new.parts.depot) number c.serve-reply.ensures.depot;
-            took = subst (λ (x : actor.Seen). Took x (seen_reply c.serve-reply.result) c.take.new.self) c.next.ensures.handed c.take.ensures;
+            called = subst (λ (n : ℕ). Calls n c.in-Call.call c.serve_or_want-reply.result (objects_of (seen c.args.self.now)) (objects_of (seen_of c.serve_or_want-reply.new.parts c.args.self.now.actors))) number c.serve_or_want-reply.ensures.called;
+            depot = subst (λ (n : ℕ). Keeps g.O.Origin.objects g.O.Origin.faults c.in-Call.call c.serve_or_want-reply.result n c.args.self.now.parts.depot c.serve_or_want-reply.new.parts.depot) number c.serve_or_want-reply.ensures.depot;
+            took = subst (λ (x : actor.Seen). Took x (seen_reply c.serve_or_want-reply.result) c.take.new.self) c.next.ensures.handed c.take.ensures;
             actors = refl;
           }),
     )
