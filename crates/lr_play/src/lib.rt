@@ -1,7 +1,7 @@
 //! A script's actors, played over the parts that its setup lines gave.
 //!
 //! `cast` makes the actors of a script, `play` lets them play and then the after part alone, and `laws` has what follows for their
-//! jobs. In `specs/`, `Players` says who plays, `Given` that their jobs may be given to actors, `Acting` what new actors are and what
+//! jobs. Tests play with `short`, by which one call finds no memory. In `specs/`, `Players` says who plays, `Given` that their jobs may be given to actors, `Acting` what new actors are and what
 //! they leave when they have acted, and `Played` what a play leaves.
 #![tactic(auto)]
 
