@@ -1,10 +1,10 @@
 //! The program `lr_smallscope`: every sequence of up to five calls on a depot over three roots and two images.
 //!
-//! From each of some starts it makes all sequences of up to so many calls by two callers, of which one store call may
-//! fail, with and without effect. After each call it judges the view and the store by rules of its own, counts the store
-//! calls, of which there is one at most, and starts a depot on the store again. A sequence that comes to a state seen before isn't made longer, and calls that are refused
-//! are made one after another in one run. For each start it prints how many states and how many different stores it
-//! saw, and how many runs it made.
+//! From each of some starts it makes all sequences of up to five calls by two callers, or four from the start with the most states. One store
+//! call of a sequence may fail, with and without effect. After each call it judges the view and the store by rules of its own, counts
+//! the store calls, of which there is one at most, and starts a depot on the store again. A sequence that comes to a state seen before
+//! isn't made longer, and calls that are refused are made one after another in one run. For each start it prints how many states and how
+//! many different stores it saw, and how many runs it made.
 //!
 //! `keys` has the keys of the scope, `rules` what must hold of a set of them, `store` the store, `images` the images,
 //! `moves` the calls, `record` what their replies tell, `run` one sequence, `search` all of them.
@@ -64,7 +64,7 @@ const MOVED: &[Move] = &[
 // The starts, and how many calls are made after each.
 const STARTS: &[(&str, &[Move], u32)] = &[
     ("empty", EMPTY, 5),
-    ("rotated", ROTATED, 5),
+    ("rotated", ROTATED, 4),
     ("leased", LEASED, 5),
     ("moved", MOVED, 5),
 ];
