@@ -12,12 +12,8 @@ mod gcm;
 mod ghash;
 mod key;
 mod lanes;
-#[cfg(test)]
-mod plain;
 mod schedule;
 mod tables;
-#[cfg(test)]
-mod tests;
 
 pub use examples::definitions_meet_examples;
 pub use gcm::BadTag;

@@ -10,8 +10,6 @@ mod cache;
 mod call;
 mod laws;
 mod places;
-#[cfg(test)]
-mod tests;
 
 pub use cache::Cache;
 pub use call::{CacheCall, CacheReply, Claim};

@@ -1,7 +1,8 @@
 //! Sealed chunks: a chunk is encrypted under a key that is the digest of a salt and its own plaintext.
 //!
 //! Equal plaintexts under one salt are one chunk, and under another salt another one. The name of a chunk is the
-//! SHA-256 (FIPS 180-4) of its ciphertext. `piece` holds a chunk with its plaintext.
+//! SHA-256 (FIPS 180-4) of its ciphertext. `range` decrypts a part of a chunk, and `piece` holds a chunk with its key, from
+//! which its plaintext is read.
 #![tactic(auto)]
 
 ghost use Rattle.std.specs.Prelude.{◌≡◌, ◌≤◌, ◌++◌, ℕ, List, length, IfOk};
@@ -16,10 +17,9 @@ use std::alloc::Global;
 
 mod laws;
 mod piece;
-#[cfg(test)]
-mod tests;
+mod range;
 
-pub use laws::sealed_pieces_open;
+pub use laws::{ranges_stand_alone, sealed_pieces_open};
 pub use piece::{KeptPiece, Piece};
 
 // The plaintext, and zeros to a whole chunk.

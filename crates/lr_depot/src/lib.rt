@@ -38,10 +38,3 @@ pub use laws::{
 pub use log::DepotLog;
 pub use lr_opening::StartCause;
 pub use start::DepotStart;
-
-#[cfg(test)]
-mod collection_tests;
-#[cfg(test)]
-mod leaf_tests;
-#[cfg(test)]
-mod tests;

@@ -10,9 +10,6 @@ ghost use Rattle.lr_depot.specs.contracts.log.DepotLog as depot_logs;
 use lr_origin::Origin;
 use std::marker::Send;
 
-#[cfg(test)]
-mod tests;
-
 /// A depot may be handed to another thread where its store may be. So may all that its start and its end hand back: the
 /// error of a start, what is left of a depot, and the view.
 ///

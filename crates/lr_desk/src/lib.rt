@@ -8,8 +8,6 @@ mod moving;
 mod outcome;
 mod roots;
 mod running;
-#[cfg(test)]
-mod tests;
 mod words;
 
 pub use collecting::collect;

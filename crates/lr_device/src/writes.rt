@@ -1,5 +1,5 @@
 //! Writes over a base.
-ghost use Rattle.std.specs.Prelude.{◌≡◌, ℕ, ◌+◌, ◌-◌, ◌*◌, ◌<◌, ◌≤◌, ◌/◌, List, length, slice_set, None, Some, get_or, take, drop, unwrap_or, vec_len, true, false, find, option_copied, IsSome, cond, replicate, ◌||◌};
+ghost use Rattle.std.specs.Prelude.{◌≡◌, ℕ, ◌+◌, ◌-◌, ◌*◌, ◌<◌, ◌≤◌, ◌/◌, ◌%◌, List, length, slice_set, None, Some, get_or, take, drop, unwrap_or, vec_len, true, false, find, option_copied, IsSome, cond, replicate, ◌||◌};
 ghost use Rattle.lr_overlay.specs.Pages.{put, over, is_written, is_placed, HasPlaces};
 ghost use Rattle.lr_device.specs.Base.{is_at, HasHere};
 ghost use Rattle.lr_device.specs.PlainDevice.{offset_of, size_of, is_read};
@@ -17,15 +17,15 @@ pub(crate) fn find_piece(pieces: &[Piece], index: u32) -> Option<&Piece>
     pieces.iter().find(|p| p.index() == index)
 }
 
-// The bytes of a page of the base.
-pub(crate) fn base_page(pieces: &[Piece], page: u32) -> &[u8]
-    requires { IsSome (find (is_at (page / 128)) pieces.now) }
-    ensures len { length result.now ≡ 4096 }
-    ensures same { (base : List ℕ) → HasHere base pieces.now page → 4096 * page + 4096 ≤ length base → result.now ≡ take 4096 (drop (4096 * page) base) }
+// Fills a buffer with bytes that a page of the base has, from one of its blocks of 16 bytes on.
+pub(crate) fn read_base(pieces: &[Piece], page: u32, from: usize, into: &mut [u8])
+    requires piece { IsSome (find (is_at (page / 128)) pieces.now) }
+    requires block { from % 16 ≡ 0 }
+    requires within { from + length into.old ≤ 4096 }
+    ensures { (base : List ℕ) → HasHere base pieces.now page → 4096 * page + 4096 ≤ length base → into.new ≡ take (length into.old) (drop from (take 4096 (drop (4096 * page) base))) }
 {
-    let from = (page % 128) as usize * 4096;
     match find_piece(pieces, page / 128) {
-        Some(piece) => &piece.plain()[from..from + 4096],
+        Some(piece) => piece.read((page % 128) as usize * 4096 + from, into),
         None => unreachable!(),
     }
 }
@@ -55,8 +55,8 @@ fn open_page(
         unreachable!();
     };
     if count < 4096 {
-        fresh.copy_from_slice(base_page(pieces, page));
         has_all(&fresh);
+        read_base(pieces, page, 0, fresh.as_mut_slice());
         return fresh;
     }
     has_all(&fresh);

@@ -9,8 +9,6 @@ mod arithmetic;
 mod interpolation;
 mod laws;
 mod tables;
-#[cfg(test)]
-mod tests;
 
 pub use arithmetic::{inv, mul};
 pub use interpolation::weights;

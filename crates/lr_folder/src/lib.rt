@@ -12,8 +12,6 @@ ghost use Rattle.lr_origin.specs.declared.origin.OriginError.TheVariants as why;
 mod folder;
 mod listing;
 mod path;
-#[cfg(test)]
-mod tests;
 
 use folder::Folder;
 use lr_origin::{Origin, OriginError, OriginFailed, Put};
@@ -22,15 +20,17 @@ use std::alloc::Global;
 /// A store in a folder that is there. The first call takes the folder's lock, and the store holds it as long as it lives.
 ///
 /// - A key is a path of a file under the folder. A get reads that file.
-/// - A put writes the file `.tmp` of the folder, syncs it, gives it the key's name, making the folders on the way, and
-///   syncs those. So an acknowledged put outlives a power cut, where the file system keeps its word. A put of a key that is
-///   there writes nothing. A deletion removes the file and syncs the same folders.
+/// - A put writes the file `.tmp` of the folder, syncs it, makes the folders on the way that aren't there, gives the file the
+///   key's name, and syncs each folder whose list that changed. So an acknowledged put outlives a power cut, where the file
+///   system keeps its word, and one that is cut off is there whole or not at all. A put of a key that is there writes nothing. A
+///   deletion removes the file and syncs the folder that had it.
 /// - The keys are listed in byte order, without `.tmp`. The folders are read once, at the first listing, and again only after
-///   a failed change.
+///   a failed change. Each is synced before it is read; a change before the first listing syncs every folder on the way.
 ///
 /// These count as failures: an error of the system; a folder that isn't there, or whose lock another store has; a file of
-/// more than 4,194,304 bytes, or a body that long; what is neither a file nor a folder; a name that isn't UTF-8; and a key that
-/// is no path under a folder, as one with an empty part, `.`, `..` or a byte 0 is, or one whose first part is `.tmp`.
+/// more than 4,194,304 bytes, or a body that long; what is neither a file nor a folder, as a link, in the place of a file or of a
+/// folder on the way; a folder named `.tmp`, in a put and a listing; a name that isn't UTF-8; and a key that is no path under a
+/// folder, as one with an empty part, `.`, `..` or a byte 0 is, or one whose first part is `.tmp`.
 ///
 /// The lock is the system's own, on the open folder (`flock`): it goes with the program, however it ends, and nothing is left
 /// of it. A file `.tmp` may be left, which the next put removes.

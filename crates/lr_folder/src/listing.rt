@@ -10,7 +10,7 @@ use std::{fs, io};
 /// The keys of all files under a folder, in byte order.
 ///
 /// It reads each folder once, and syncs it first, so that what is found outlives a power cut. It fails for what is
-/// neither a file nor a folder, and for a name that isn't UTF-8.
+/// neither a file nor a folder, for a folder in the place of the file that a put writes first, and for a name that isn't UTF-8.
 pub fn keys_in(rt: &HostRuntime, alloc: Global, folder: &str) -> io::Result<BTreeSet<Vec<u8>>> {
     let mut keys = BTreeSet::new(alloc);
     let mut fronts = Vec::new(alloc);
@@ -40,12 +40,15 @@ fn read_folder(
     for entry in fs::read_dir(rt, path.as_str())? {
         let entry = entry?;
         let name = entry.file_name();
+        let kind = entry.file_type()?;
         if front.is_empty() && name.as_bytes() == TEMPORARY {
+            if kind.is_dir() {
+                return Err(io::Error::from(ErrorKind::InvalidData));
+            }
             continue;
         }
         let mut key = front.clone()?;
         key.push_str(name)?;
-        let kind = entry.file_type()?;
         if kind.is_dir() {
             key.push('/')?;
             fronts.push(key)?;

@@ -87,6 +87,15 @@ impl FilePath {
         }
     }
 
+    /// The same of the folders in the store's own.
+    pub fn inner_folder_at(&self, end: usize) -> Option<&str> {
+        if end > self.folder_len {
+            self.folder_at(end)
+        } else {
+            None
+        }
+    }
+
     fn front(&self, len: usize) -> Option<&str> {
         from_utf8(self.bytes.get(..len)?).ok()
     }

@@ -11,9 +11,6 @@ ghost use Rattle.lr_gen.specs.Bytes.{started_at, seed_byte, after_words};
 use rand_core::utils::NextWord;
 use rand_pcg::Lcg64Xsh32;
 
-#[cfg(test)]
-mod tests;
-
 // Bytes that the generator draws a word for.
 const WORD_LEN: usize = 4;
 

@@ -14,6 +14,3 @@ pub use line::{LINE_CAPACITY, Line};
 pub use memory::{MemSink, MemSource};
 pub use sink::{Sink, SinkError, write_all};
 pub use source::{ReadError, Source, SourceFailed, read_up_to};
-
-#[cfg(test)]
-mod tests;

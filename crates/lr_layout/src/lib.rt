@@ -8,8 +8,6 @@ ghost use Rattle.std.specs.Prelude.{◌≡◌, ◌+◌, ◌*◌, ◌%◌, ◌<�
 ghost use Rattle.lr_layout.specs.Padded.{padded_length, count_of_chunks};
 
 mod span;
-#[cfg(test)]
-mod tests;
 
 pub use span::{Span, span_of};
 

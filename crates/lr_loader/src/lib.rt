@@ -13,8 +13,6 @@ mod load;
 mod stage;
 mod stripes;
 mod test_of_replies;
-#[cfg(test)]
-mod tests;
 
 pub use action::{LoadAction, LoadEnd, LoadReply};
 pub use laws::loads_are_determined;

@@ -1,14 +1,8 @@
 //! The program `lr`: a store and a command. The store is a folder, or `-` for an empty one in memory. `lr - play` reads a
 //! script on standard input, runs it, and writes its report to standard output; the other commands are done over the store.
-//!
-//! `edge` is the trusted edge: what standard input and output hold, no contract knows.
 #![tactic(auto)]
 
-mod edge;
-#[cfg(test)]
-mod tests;
-
-use edge::{StdSink, StdSource};
+use lr_edge::{StdSink, StdSource};
 use lr_folder::DirOrigin;
 use lr_origin::{MemOrigin, Origin};
 use lr_top::top;

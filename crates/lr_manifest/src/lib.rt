@@ -19,6 +19,3 @@ pub use manifest::Manifest;
 pub use name::{ChunkKey, Name, TenantKey};
 pub use print::clear_text;
 pub use row::{Row, cut_rows, join_rows};
-
-#[cfg(test)]
-mod tests;

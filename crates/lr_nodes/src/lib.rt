@@ -11,8 +11,6 @@ mod laws;
 mod list;
 mod node;
 mod placing;
-#[cfg(test)]
-mod tests;
 
 pub use call::{NodeCall, NodeReply};
 pub use laws::nodes_are_orderly;

@@ -172,19 +172,6 @@ impl Node {
     }
 }
 
-#[cfg(test)]
-impl Node {
-    // The index and the first byte of each stripe, the most recent one first.
-    pub(crate) fn held(&self, alloc: Global) -> Result<Vec<(u8, u8)>, OutOfMemory> {
-        let mut held = Vec::new(alloc);
-        for stripe in &self.stripes {
-            let first = stripe.bytes.as_slice().first().copied();
-            held.push((stripe.index, first.unwrap_or(0)))?;
-        }
-        Ok(held)
-    }
-}
-
 impl Object for Node {
     ghost use Rattle.lr_nodes.specs.Machine.{run, is_logged, May, NodeStep, Enters};
 

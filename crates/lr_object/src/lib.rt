@@ -15,6 +15,3 @@ pub use entry::Entry;
 pub use id::ObjectId;
 pub use object::Object;
 pub use recent::{owner_of, put_first, raise};
-
-#[cfg(test)]
-mod tests;

@@ -15,6 +15,3 @@ mod reading;
 pub use cause::StartCause;
 pub use laws::sound_stores_open;
 pub use opening::open;
-
-#[cfg(test)]
-mod tests;

@@ -1,5 +1,6 @@
 pub mod Objects
 pub mod Table
 pub mod Fuse
+pub mod One
 pub mod Kind
 pub mod Text

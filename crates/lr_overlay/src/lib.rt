@@ -11,8 +11,6 @@ ghost use Rattle.lr_overlay.specs.Directory.{place_of, leaves_of};
 
 mod cells;
 mod leaf;
-#[cfg(test)]
-mod tests;
 
 use leaf::{Leaf, has_all};
 use lr_layout::{PAGE, RAW_LIMIT};

@@ -10,8 +10,6 @@ mod error;
 mod laws;
 mod lines;
 mod preparing;
-#[cfg(test)]
-mod tests;
 
 pub use error::SetupError;
 pub use laws::{leases_are_out, scripts_fit, stops_are_told};

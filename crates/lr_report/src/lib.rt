@@ -12,8 +12,6 @@ mod depot;
 mod devices;
 mod names;
 mod run;
-#[cfg(test)]
-mod tests;
 mod text;
 
 pub use run::{OpenDevice, Opening, Run};

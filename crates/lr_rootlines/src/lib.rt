@@ -5,8 +5,6 @@
 
 mod line;
 mod part;
-#[cfg(test)]
-mod tests;
 
 pub use line::put_root_line;
 pub use part::put_roots;

@@ -219,7 +219,7 @@ whole_inserted all key held whole is fits = record {
     fit q h there (inr e) = whole.fits q h (sym (beside q e) ∙ there)
 
 -- a key that was put and removed
-shadow : (all : View) (key : KeyKind) (held : Held) → fin.remove (fin.insert all key held) key ≡ fin.remove all key
+pub shadow : (all : View) (key : KeyKind) (held : Held) → fin.remove (fin.insert all key held) key ≡ fin.remove all key
 shadow all key held = same_map kind_total kind_exact _ _ (λ q. by q (cases_Bool (eq_by_cmp kind_cmp q key)))
   where
     by : (q : KeyKind) → (eq_by_cmp kind_cmp q key ≡ true) ⊎ (eq_by_cmp kind_cmp q key ≡ false) → fin.get (fin.remove (fin.insert all key held) key) q ≡ fin.get (fin.remove all key) q
@@ -227,7 +227,7 @@ shadow all key held = same_map kind_total kind_exact _ _ (λ q. by q (cases_Bool
     by q (inr e) = get-remove kind_total (fin.insert all key held) key q ∙ cond-false _ None _ e ∙ get-insert kind_total all key held q ∙ cond-false _ (Some held) _ e ∙ sym (get-remove kind_total all key q ∙ cond-false _ None _ e)
 
 -- a key that isn't there is removed
-nothing_gone : (v : View) (key : KeyKind) → Lacks v key → fin.remove v key ≡ v
+pub nothing_gone : (v : View) (key : KeyKind) → Lacks v key → fin.remove v key ≡ v
 nothing_gone v key lacks = same_map kind_total kind_exact _ _ (λ q. by q (cases_Bool (eq_by_cmp kind_cmp q key)))
   where
     by : (q : KeyKind) → (eq_by_cmp kind_cmp q key ≡ true) ⊎ (eq_by_cmp kind_cmp q key ≡ false) → fin.get (fin.remove v key) q ≡ fin.get v q
@@ -264,3 +264,7 @@ has_inserted all key held = subst IsSome (sym (get_inserted all key held)) refl
 
 pub has_kept : (all : View) (before key : KeyKind) → before ≢ key → Has all key → Has (fin.remove all before) key
 has_kept all before key other here = subst IsSome (sym (get_kept all before key (λ e. other (sym e)))) here
+
+-- a key of what is seen is one of all keys
+pub has_seen : (aside : Option KeyKind) (all : View) (s : Seen) (q : KeyKind) → ◌≡◌ {A = Seen} (record { view = without aside all; aside = aside_of aside all }) s → Has s.view q → Has all q
+has_seen aside all s q is has = has_all aside all q (subst (λ (t : Seen). Has t.view q) (sym is) has)

@@ -1,37 +1,76 @@
--- A search from the greatest root down.
-use Rattle.std.proofs.Common.{◌≡◌, ◌<◌, ◌≤◌, ◌+◌, ◌-◌, ℕ, subst, inl, inr, arith}
+-- Searches through numbers, from a bound down and from one up.
+use Rattle.std.proofs.Common.{◌≡◌, ◌<◌, ◌≤◌, ◌+◌, ℕ, Some, None, subst, sym, inl, inr, arith}
 use mathlib.Core.Logic.{◌⊎◌}
+use Rattle.lr_roots.specs.Index.{IsLastBelow, IsFirstFrom}
 
--- none passes above the step
-abbrev pub NoneAbove : (ℕ → Type 0) → ℕ → Type 0
-NoneAbove P step = (q : ℕ) → 1000 < q + step → P q → ⊥
+-- none passes from the bound on
+abbrev pub NoneFrom : (ℕ → Type 0) → ℕ → Type 0
+NoneFrom P bound = (q : ℕ) → bound ≤ q → P q → ⊥
 
-pub one_down : (P : ℕ → Type 0) (step : ℕ) → step < 1000 → NoneAbove P step → (P (1000 - step) → ⊥) → NoneAbove P (step + 1)
-one_down P step room above not q less p = by split
-  where
-    split : (1000 < q + step) ⊎ (q ≡ 1000 - step)
-    split = grind (arith, less, room)
+-- none passes below the bound
+abbrev pub NoneBelow : (ℕ → Type 0) → ℕ → Type 0
+NoneBelow P bound = (q : ℕ) → q < bound → P q → ⊥
 
-    by : (1000 < q + step) ⊎ (q ≡ 1000 - step) → ⊥
-    by (inl l) = above q l p
-    by (inr same) = not (subst P same p)
+-- All that pass are among those that are walked.
+module _ (P K : ℕ → Type 0) (within : (q : ℕ) → P q → K q) (bound : ℕ) where
+  -- none passes above the last one
+  pub none_above : (r : ℕ) → NoneFrom P bound → IsLastBelow K bound (Some r) → (q : ℕ) → r < q → P q → ⊥
+  none_above r none last q above p = by split
+    where
+      split : (q < bound) ⊎ (bound ≤ q)
+      split = grind arith
 
-pub at_most : (P : ℕ → Type 0) (step q : ℕ) → step < 1000 → NoneAbove P step → P q → q ≤ 1000 - step
-at_most P step q room above p = by split
-  where
-    split : (1000 < q + step) ⊎ (q ≤ 1000 - step)
-    split = grind (arith, room)
+      by : (q < bound) ⊎ (bound ≤ q) → ⊥
+      by (inl below) = last.2 q above below (within q p)
+      by (inr le) = none q le p
 
-    by : (1000 < q + step) ⊎ (q ≤ 1000 - step) → q ≤ 1000 - step
-    by (inl l) = absurd (above q l p)
-    by (inr le) = le
+  pub one_down : (r : ℕ) → NoneFrom P bound → IsLastBelow K bound (Some r) → (P r → ⊥) → NoneFrom P r
+  one_down r none last not q le p = by split
+    where
+      split : (r < q) ⊎ (q ≡ r)
+      split = grind (arith, le)
 
-pub none_at_all : (P : ℕ → Type 0) (q : ℕ) → NoneAbove P 1000 → P q → q ≤ 0
-none_at_all P q above p = by split
-  where
-    split : (1000 < q + 1000) ⊎ (q ≤ 0)
-    split = grind arith
+      by : (r < q) ⊎ (q ≡ r) → ⊥
+      by (inl above) = none_above r none last q above p
+      by (inr same) = not (subst P same p)
 
-    by : (1000 < q + 1000) ⊎ (q ≤ 0) → q ≤ 0
-    by (inl l) = absurd (above q l p)
-    by (inr le) = le
+  pub none_left : NoneFrom P bound → IsLastBelow K bound None → (q : ℕ) → P q → ⊥
+  none_left none last q p = by split
+    where
+      split : (q < bound) ⊎ (bound ≤ q)
+      split = grind arith
+
+      by : (q < bound) ⊎ (bound ≤ q) → ⊥
+      by (inl below) = last q below (within q p)
+      by (inr le) = none q le p
+
+  -- none passes below the first one
+  pub none_under : (r : ℕ) → NoneBelow P bound → IsFirstFrom K bound (Some r) → NoneBelow P r
+  none_under r none first q below p = by split
+    where
+      split : (q < bound) ⊎ (bound ≤ q)
+      split = grind arith
+
+      by : (q < bound) ⊎ (bound ≤ q) → ⊥
+      by (inl less) = none q less p
+      by (inr le) = first.2 q le below (within q p)
+
+  pub one_up : (r : ℕ) → NoneBelow P bound → IsFirstFrom K bound (Some r) → (P r → ⊥) → NoneBelow P (r + 1)
+  one_up r none first not q below p = by split
+    where
+      split : (q < r) ⊎ (q ≡ r)
+      split = grind (arith, below)
+
+      by : (q < r) ⊎ (q ≡ r) → ⊥
+      by (inl less) = none_under r none first q less p
+      by (inr same) = not (subst P same p)
+
+  pub none_on : NoneBelow P bound → IsFirstFrom K bound None → (q : ℕ) → P q → ⊥
+  none_on none first q p = by split
+    where
+      split : (q < bound) ⊎ (bound ≤ q)
+      split = grind arith
+
+      by : (q < bound) ⊎ (bound ≤ q) → ⊥
+      by (inl below) = none q below p
+      by (inr le) = first q le (within q p)

@@ -4,3 +4,4 @@ pub mod Downward
 pub mod Ordered
 pub mod Named
 pub mod Fewer
+pub mod Indexes

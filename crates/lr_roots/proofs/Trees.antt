@@ -43,7 +43,7 @@ module _ {K X : Type 0} (eq : K → K → Bool) (test : K → Bool) where
 abbrev pub ChangesAt : List (KeyKind × Kept) → List (KeyKind × Kept) → KeyKind → Option Kept → Type 0
 ChangesAt old new key w = (q : KeyKind) → lookup (at_key q) new ≡ cond (eq_by_cmp kind_cmp q key) w (lookup (at_key q) old)
 
-is_eq-Equal : (o : Ordering) → is_eq o ≡ true → o ≡ Equal
+pub is_eq-Equal : (o : Ordering) → is_eq o ≡ true → o ≡ Equal
 is_eq-Equal Less e = cc
 is_eq-Equal Equal e = refl
 is_eq-Equal Greater e = cc

@@ -1,5 +1,6 @@
 pub mod View
 pub mod Keys
+pub mod Index
 pub mod Roots
 pub mod Names
 pub mod Foreign

@@ -7,8 +7,8 @@ ghost use Rattle.lr_roots.specs.Keys.{plain, held_of};
 ghost use Rattle.lr_roots.specs.Names.{AreFewer, IsNamed};
 ghost use Rattle.lr_roots.specs.Catalog.{with_key, salt_of, manifest_of, arc_of};
 
+use crate::indexed::Indexed;
 use crate::kept::Kept;
-use crate::keys::Keys;
 use lr_manifest::Manifest;
 use lr_origin::{ImageName, Key, KeyKind};
 use lr_spec::OutOfMemory;
@@ -23,7 +23,7 @@ use std::sync::Arc;
 /// memory.
 #[derive(Drop)]
 pub struct Catalog {
-    pub(crate) keys: Keys,
+    pub(crate) keys: Indexed,
     pub(crate) aside: Option<Key>,
 }
 
@@ -61,7 +61,7 @@ impl Catalog {
         ensures { result ≡ record { view = map.empty; aside = None } }
     {
         Catalog {
-            keys: Keys::new(alloc),
+            keys: Indexed::new(alloc),
             aside: None,
         }
     }

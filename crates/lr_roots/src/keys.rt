@@ -1,5 +1,5 @@
 //! Keys in byte order with what is kept of their objects, which a contract sees as a finite map.
-ghost use Rattle.std.specs.Prelude.{◌≡◌, ◌<◌, ◌^◌, length, OnOk, OnErr};
+ghost use Rattle.std.specs.Prelude.{◌≡◌, ◌<◌, ◌^◌, length, OnOk, OnErr, None};
 ghost use Rattle.std.specs.FinMap as map;
 ghost use Rattle.std.specs.List.Sorted.{IsStrictlySortedBy};
 ghost use Rattle.lr_origin.specs.Kind.{kind_cmp};
@@ -55,6 +55,7 @@ impl Keys {
     pub fn insert(&mut self, key: Key, body: Kept) -> Result<(), AllocError>
         ensures ok { OnOk result (self.new ≡ map.insert self.old key (plain body)) }
         ensures err { OnErr result (self.new ≡ self.old) }
+        ensures absent { OnErr result (map.get self.old key ≡ None) }
     {
         self.entries.insert(key, body)?;
         Ok(())

@@ -8,6 +8,8 @@
 
 mod catalog;
 mod foreign;
+mod index;
+mod indexed;
 mod kept;
 mod keys;
 mod names;
@@ -22,6 +24,3 @@ pub use state::RootState;
 
 /// The greatest creation number.
 pub const NUMBER_MAX: u64 = 9_223_372_036_854_775_807;
-
-#[cfg(test)]
-mod tests;

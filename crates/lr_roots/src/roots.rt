@@ -3,6 +3,7 @@ ghost use Rattle.std.specs.Prelude.{◌≡◌, ◌<◌, ◌≤◌, ◌↔◌, �
 ghost use Rattle.lr_origin.specs.declared.key.KeyKind.TheVariants as kind;
 ghost use Rattle.lr_roots.specs.View.{Has, Lacks};
 ghost use Rattle.lr_roots.specs.Foreign.{IsFirstRoot};
+ghost use Rattle.lr_roots.specs.Index.{IsLastRoot};
 ghost use Rattle.lr_roots.specs.Roots.{IsLive, IsTop, IsRootState, IsHome, IsHomeless, IsMissing};
 
 use crate::catalog::Catalog;
@@ -15,13 +16,14 @@ impl Catalog {
     pub fn roots(&self) -> u32
         ensures { IsTop self.now.view result }
     {
-        // Each key of the view is of the grammar, so no root is above the limit.
+        // Each key of the view is one of the keys, and no root is above the limit.
         let _aside = &self.aside;
-        for step in 0..ROOTS_MAX {
-            let root = ROOTS_MAX - step;
+        let mut bound = ROOTS_MAX + 1;
+        while let Some(root) = self.keys.root_below(bound) {
             if self.has_kind(KeyKind::Root(root)) {
                 return root;
             }
+            bound = root;
         }
         0
     }
@@ -56,13 +58,14 @@ impl Catalog {
     pub fn home(&self, image: &ImageName) -> Option<u32>
         ensures { MatchOption result (IsHomeless self.now.view image.now) (λ root. IsHome self.now.view image.now root) }
     {
-        // Each key of the view is of the grammar, so no root is above the limit.
+        // Each key of the view is one of the keys, and no root is above the limit.
         let _aside = &self.aside;
-        for step in 0..ROOTS_MAX {
-            let root = ROOTS_MAX - step;
+        let mut bound = ROOTS_MAX + 1;
+        while let Some(root) = self.keys.manifest_below(image, bound) {
             if self.lists(root, image) {
                 return Some(root);
             }
+            bound = root;
         }
         None
     }
@@ -110,12 +113,30 @@ impl Catalog {
     pub(crate) fn first_root(&self, image: &ImageName) -> Option<u32>
         ensures { MatchOption result ((q : ℕ) → Lacks self.now.view (kind.Manifest q image.now)) (λ root. IsFirstRoot self.now.view image.now root) }
     {
-        // Each key of the view is of the grammar, so no root is above the limit.
+        // Each key of the view is one of the keys.
         let _aside = &self.aside;
-        for root in 0..ROOTS_MAX + 1 {
+        let mut bound = 0;
+        while let Some(root) = self.keys.manifest_from(image, bound) {
             if self.has_kind(KeyKind::Manifest(root, *image)) {
                 return Some(root);
             }
+            bound = root + 1;
+        }
+        None
+    }
+
+    // The greatest root that has a manifest of the image.
+    fn last_root(&self, image: &ImageName) -> Option<u32>
+        ensures { MatchOption result ((q : ℕ) → Lacks self.now.view (kind.Manifest q image.now)) (λ root. IsLastRoot self.now.view image.now root) }
+    {
+        // Each key of the view is one of the keys, and no root is above the limit.
+        let _aside = &self.aside;
+        let mut bound = ROOTS_MAX + 1;
+        while let Some(root) = self.keys.manifest_below(image, bound) {
+            if self.has_kind(KeyKind::Manifest(root, *image)) {
+                return Some(root);
+            }
+            bound = root;
         }
         None
     }
@@ -124,13 +145,9 @@ impl Catalog {
     pub(crate) fn is_last_root(&self, root: u32, image: &ImageName) -> bool
         ensures { IsTrue result ↔ ((q : ℕ) → root < q → Lacks self.now.view (kind.Manifest q image.now)) }
     {
-        // Each key of the view is of the grammar, so no root is above the limit.
-        let _aside = &self.aside;
-        for later in 0..ROOTS_MAX + 1 {
-            if root < later && self.has_kind(KeyKind::Manifest(later, *image)) {
-                return false;
-            }
+        match self.last_root(image) {
+            Some(last) => last <= root,
+            None => true,
         }
-        true
     }
 }

@@ -8,8 +8,6 @@ mod error;
 mod laws;
 mod make;
 mod table;
-#[cfg(test)]
-mod tests;
 
 pub use error::UnsealError;
 pub use laws::{denotes_its_parts, is_denoted_by_tag, made_manifests_denote};

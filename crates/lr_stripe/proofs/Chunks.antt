@@ -1,5 +1,5 @@
 -- The chunk of stripes, and the stripe of a chunk: there is one, and there is no other.
-use Rattle.std.proofs.Common.{◌≡◌, ℕ, zero, suc, ◌+◌, ◌*◌, ◌/◌, ◌%◌, ◌^◌, ◌<◌, ◌≤◌, List, [], ◌∷◌, length, map, slice_index, refl, sym, ap, subst, ◌∙◌, arith, lit<}
+use Rattle.std.proofs.Common.{◌≡◌, ℕ, zero, suc, ◌+◌, ◌*◌, ◌/◌, ◌%◌, ◌^◌, ◌<◌, ◌≤◌, List, [], ◌∷◌, length, map, slice_index, sym, ap, subst, ◌∙◌, arith, lit<}
 use Rattle.std.specs.List.{range_with_len}
 use Rattle.std.proofs.lemmas.List.{length-map, get_or-map}
 use Rattle.std.proofs.lemmas.List.FromFn.{length-range_with_len, length-map-range_with_len, get_or-map-range_with_len}
@@ -8,7 +8,7 @@ use Rattle.std.proofs.Math.Nat.{mul_comm, div-lt_iff_lt-mul, div-add-mod, mul-di
 use Rattle.std.proofs.lemmas.Grind.{same_number_lists}
 use Rattle.lr_field.specs.Polynomial.{AreBytes, IsDistinct, IsOnPolynomial, value_at}
 use Rattle.lr_field.proofs.Public.{AreBytes_from, any_values, values_fix, is_field}
-use Rattle.lr_stripe.specs.Code.{points, column, part_of, IsStripe, AreStripes, StripesAreOfOneChunk, ChunkHasOneStripe}
+use Rattle.lr_stripe.specs.Code.{points, column, part_of, AreStripes, StripesAreOfOneChunk, ChunkHasOneStripe}
 use Rattle.lr_stripe.proofs.Columns.{length-column, get_or-column, get_or-part_of, length-part_of, part_within, AreBytes-points, IsDistinct-points, column_is_on_polynomial}
 use Rattle.lr_stripe.proofs.Rebuilt.{stripe_at, some_at}
 

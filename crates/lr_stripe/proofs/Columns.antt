@@ -1,11 +1,10 @@
 -- Columns of bytes that lie in parts, and weighted sums over them.
-use Rattle.std.proofs.Common.{◌≡◌, ◌≢◌, ℕ, ◌+◌, ◌*◌, ◌^◌, ◌<◌, ◌≤◌, bit_xor, List, [], ◌∷◌, ◌++◌, length, map, slice_index, take, drop, refl, sym, ap, subst, ◌∙◌, arith, lit<, length-append, length-take-le, length-drop}
-use Rattle.std.specs.List.{range_with_len}
+use Rattle.std.proofs.Common.{◌≡◌, ℕ, ◌+◌, ◌*◌, ◌^◌, ◌<◌, ◌≤◌, bit_xor, List, [], ◌∷◌, ◌++◌, length, slice_index, take, drop, refl, sym, ap, subst, ◌∙◌, arith, length-take-le, length-drop}
 use Rattle.std.proofs.lemmas.List.{get_or-take, get_or-drop, take_more}
 use Rattle.std.proofs.lemmas.List.FromFn.{length-range_with_len, get_or-range_with_len, length-map-range_with_len, get_or-map-range_with_len, map-range_with_len_more}
 use Rattle.std.proofs.lemmas.Nat.{rows}
 use Rattle.lr_field.specs.Field.{product}
-use Rattle.lr_field.specs.Polynomial.{AreBytes, IsDistinct, IsOnPolynomial, GivesValue, weighted, value_at}
+use Rattle.lr_field.specs.Polynomial.{AreBytes, IsDistinct, IsOnPolynomial, GivesValue, weighted}
 use Rattle.lr_field.proofs.Public.{AreBytes_from, any_values, weighted_push}
 use Rattle.lr_stripe.specs.Code.{points, column, part_of, IsStripe}
 

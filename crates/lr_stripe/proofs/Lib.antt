@@ -1,4 +1,5 @@
 mod Columns
+mod Halves
 mod Rebuilt
 mod Chunks
 pub mod Public

@@ -1,13 +1,13 @@
 -- A chunk from stripes of it.
-use Rattle.std.proofs.Common.{◌≡◌, ℕ, ◌+◌, ◌-◌, ◌*◌, ◌^◌, ◌<◌, ◌≤◌, List, [], ◌++◌, inl, inr, take, length-take-le, length, map, slice_index, slice_index_or, refl, sym, ap, subst, ◌∙◌, arith}
+use Rattle.std.proofs.Common.{◌≡◌, ℕ, ◌+◌, ◌-◌, ◌*◌, ◌^◌, ◌<◌, ◌≤◌, List, [], ◌++◌, inl, inr, take, length-take-le, length, map, slice_index, slice_index_or, sym, ap, subst, ◌∙◌, arith}
 use Rattle.std.proofs.lemmas.List.{length-map, get_or-map, get_or-take, get_or_append_left, get_or-append_right}
 use Rattle.std.proofs.lemmas.Bool.{cases_lt}
 use borrow.Rule.Slice.PartMut.{put_mid, post_of}
-use Rattle.std.proofs.lemmas.List.FromFn.{length-range_with_len, get_or-range_with_len, get_or-map-range_with_len}
+use Rattle.std.proofs.lemmas.List.FromFn.{length-range_with_len, get_or-map-range_with_len}
 use Rattle.std.proofs.lemmas.Grind.{same_number_lists}
 use Rattle.lr_field.specs.Polynomial.{AreBytes, IsOnPolynomial, GivesValue, weighted, value_at}
-use Rattle.lr_stripe.specs.Code.{points, column, part_of, IsStripe, AreStripes, IsCodeword, StripesAreCodeword}
-use Rattle.lr_stripe.proofs.Columns.{length-column, get_or-column, get_or-part_of, length-part_of}
+use Rattle.lr_stripe.specs.Code.{points, column, part_of, IsStripe, AreStripes, StripesAreCodeword}
+use Rattle.lr_stripe.proofs.Columns.{length-column, get_or-column, get_or-part_of, length-part_of, column_is_on_polynomial}
 
 -- a stripe's byte is the value of the polynomial through the bytes of the parts
 pub stripe_at : (k x len : ℕ) (chunk stripe : List ℕ) → IsStripe k chunk x stripe → length stripe ≡ len → (t : ℕ) → t < len → (cs : List ℕ) → AreBytes cs → length cs ≡ k
@@ -68,3 +68,23 @@ codeword k len chunk stripes some are t lt =
             ∙ sym (get_or-map-range_with_len (value_at cs) 0 (length (map bytes_at stripes)) j j 0 lj (omega arith))),
       ),
     )
+
+-- part j of a chunk is its stripe j
+pub part_is_stripe : (k j : ℕ) (chunk out : List ℕ) → k ≤ 32 → j < k → length chunk ≡ k * length out → ((i : ℕ) → slice_index chunk i < 2 ^ 8) → out ≡ part_of (length out) j chunk → IsStripe k chunk j out
+part_is_stripe k j chunk out le lj parts small is = record {
+  parts = parts;
+  some = λ t lt. column_is_on_polynomial k (length out) t chunk le small;
+  each = λ t lt cs bytes count e.
+      ap (λ (l : List ℕ). slice_index l t) is ∙ get_or-part_of chunk (length out) j t lt ∙ sym (get_or-column k (length out) t chunk j lj)
+      ∙ ap (λ (l : List ℕ). slice_index l j) e ∙ get_or-map-range_with_len (value_at cs) 0 k j j 0 lj (omega arith);
+}
+
+-- a stripe among the first ones is the chunk's part
+pub given_at : (k len i j : ℕ) (indices stripes chunk : List ℕ) → AreStripes k len chunk indices stripes → i < k → slice_index indices i ≡ j → j < k → length stripes ≡ k * len
+    → (t : ℕ) → t < len → slice_index stripes (len * i + t) ≡ slice_index chunk (len * j + t)
+given_at k len i j indices stripes chunk are li there lj long t lt =
+    let part_long : length (part_of len i stripes) ≡ len = length-part_of stripes k len i long li in
+    let is : IsStripe k chunk j (part_of len i stripes) = subst (λ (x : ℕ). IsStripe k chunk x (part_of len i stripes)) there (are.each i li) in
+    let p = some_at k j len chunk (part_of len i stripes) is part_long t lt in
+    sym (get_or-part_of stripes len i t lt) ∙ stripe_at k j len chunk (part_of len i stripes) is part_long t lt p.0 p.1.0 p.1.1 p.1.2
+    ∙ sym (sym (get_or-column k len t chunk j lj) ∙ ap (λ (l : List ℕ). slice_index l j) p.1.2 ∙ get_or-map-range_with_len (value_at p.0) 0 k j j 0 lj (omega arith))

@@ -24,6 +24,3 @@ pub use name::{ImageName, place_of};
 pub use number::{number_between, number_of, put_number};
 pub use runs::{put_run, run_of, runs_of};
 pub use words::{first, four, is, one, three, two};
-
-#[cfg(test)]
-mod tests;

@@ -13,8 +13,6 @@ mod laws;
 mod opening;
 mod outcome;
 mod playing;
-#[cfg(test)]
-mod tests;
 
 pub use choose::{desk, top};
 pub use ends::PlayEnd;

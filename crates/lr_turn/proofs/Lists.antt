@@ -1,4 +1,12 @@
 -- Lists, prefixes, and the seats of numbers.
+use Rattle.std.proofs.lemmas.Cmp.{nat_eq_equiv}
+use Rattle.std.proofs.lemmas.Map.Keys.{IsDistinct-push}
+use Rattle.std.proofs.lemmas.Map.Made.{IsDistinct-from_count}
+use Rattle.std.proofs.lemmas.List.Elements.{All-weaker}
+use Rattle.std.proofs.lemmas.List.Folds.{list_any_none}
+use Rattle.std.specs.List.{IsDistinct}
+use Rattle.std.specs.Bool.{nat_eq}
+use Rattle.std.specs.Prelude.{All, ◌==◌, false}
 use Rattle.std.proofs.Common.{◌≡◌, ◌≢◌, ℕ, ◌<◌, ◌≤◌, ◌⊎◌, eqb, cond, List, [], ◌∷◌, ◌++◌, length, set, sym, refl, ap, ◌∙◌, inl, inr, ⊎_elim, arith, Option, Some, None, Bool, length-append, append_assoc, append-nil, eq-eqb, ne_eqb, zero, suc, max}
 use mathlib.Core.Logic.{dite}
 use mathlib.Core.Option.{none, some, some-ne-none, some-injective}
@@ -65,6 +73,18 @@ module _ {A : Type 0} where
 
   pub put_else : (f : ℕ → A) (n : ℕ) (x : A) (m : ℕ) → m ≢ n → put f n x m ≡ f m
   put_else f n x m ne = ap (λ (b : Bool). cond b x (f m)) (ne_eqb m n ne)
+
+-- no two of these numbers are one
+abbrev pub Apart : List ℕ → Type 0
+Apart = IsDistinct (λ m n. m == n)
+
+pub apart_one : Apart (0 ∷ [])
+apart_one = IsDistinct-from_count {eq = nat_eq} nat_eq_equiv (0 ∷ []) refl
+
+-- a number that differs from each of them
+pub apart_more : (ns : List ℕ) (n : ℕ) → Apart ns → All (λ m. n ≢ m) ns → Apart (ns ++ n ∷ [])
+apart_more ns n h differs = IsDistinct-push {eq = nat_eq} nat_eq_equiv ns n h
+    (list_any_none (nat_eq n) ns (All-weaker (λ m. n ≢ m) (λ m. nat_eq n m ≡ false) (λ m ne. ne_eqb n m ne) ns differs))
 
 pub put_none : (f : ℕ → maybe.Option ℕ) (n m : ℕ) → f m ≡ none → put f n none m ≡ none
 put_none f n m e = dite (ℕ_discrete m n) (λ h. put_here f n none m h) (λ ne. put_else f n none m ne ∙ e)

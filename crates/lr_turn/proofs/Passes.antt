@@ -1,10 +1,11 @@
 -- Splitting a pass and joining one keep the rule.
-use Rattle.std.proofs.Common.{◌≡◌, ◌≢◌, ℕ, ◌<◌, ◌≤◌, List, [], ◌∷◌, ◌++◌, length, set, sym, refl, ap, ◌∙◌, subst, ⊎_elim, inl, inr, arith, false, length-set}
+use Rattle.std.proofs.Common.{◌≡◌, ◌≢◌, ℕ, ◌<◌, ◌≤◌, List, [], ◌∷◌, ◌++◌, length, set, map, sym, refl, ap, ◌∙◌, subst, ⊎_elim, inl, inr, arith, false, length-set}
+use Rattle.std.proofs.lemmas.List.{map-append}
 use Rattle.std.specs.Prelude.{All, Contains}
 use Rattle.std.proofs.lemmas.Bool.{false≢true}
-use Rattle.std.proofs.lemmas.List.Elements.{All-push, All-weaker, Contains-append_left, Contains-push}
+use Rattle.std.proofs.lemmas.List.Elements.{All-push, All-cons, All-map, All-weaker, Contains-append_left, Contains-push}
 use mathlib.Core.Logic.{dite}
-use mathlib.Core.Option.{none, some, some-injective}
+use mathlib.Core.Option.{none, some, some-injective, some-ne-none}
 use mathlib.Core.Option as maybe
 use mathlib.Core.List.{IsPrefix}
 use native.Mathlib.Decide.{ℕ_discrete}
@@ -15,18 +16,20 @@ use Rattle.lr_object.specs.declared.entry.Entry.{Entry}
 use Rattle.lr_object.specs.Own.{own_entries}
 use Rattle.lr_turn.specs.declared.view.View.{View}
 use Rattle.lr_turn.specs.declared.view.Own.{Own}
-use Rattle.lr_turn.specs.Views.{giving, newcomer, joining, own_of, spent_view}
+use Rattle.lr_turn.specs.Views.{giving, newcomer, joining, own_of, lists_of, spent_view}
 use Rattle.lr_turn.specs.Kept.{Past, counted, IsGiven, Ended, Knows, Kept}
-use Rattle.lr_turn.proofs.Lists.{at_snoc_at, longer_is, put, put_here, put_else, put_none, put_some}
+use Rattle.lr_turn.specs.Called.{numbers}
+use Rattle.lr_turn.proofs.Lists.{Apart, apart_more, at_snoc_at, longer_is, put, put_here, put_else, put_none, put_some}
 use Rattle.lr_turn.proofs.Rules.{each_set, each_but, busy_set}
 
 -- a number that was given out stays so
 given_more : (given : List ℕ) (n m : ℕ) → IsGiven given m → IsGiven (given ++ n ∷ []) m
 given_more given n m h = ⊎_elim (λ z. inl z) (λ g. inr (Contains-append_left given (n ∷ []) m g)) h
 
-module _ {S C R F : Type 0} (log : S → List (Entry C R)) (fixed : S → F) (shares : C → Type 0) (f0 : F) (l0 : List (Entry C R)) where
+module _ {S C R F Call Reply : Type 0} (log : S → List (Entry C R)) (fixed : S → F) (shares : C → Type 0)
+    (answers : F → List (Entry C R) → ℕ → Call → Reply → Type 0) (enters : F → List (Entry C R) → ℕ → Call → Reply → Entry C R → Type 0) (f0 : F) (l0 : List (Entry C R)) where
   abbrev Rule : State S (View C R F) → Type 0
-  Rule = Kept log fixed shares f0 l0
+  Rule = Kept log fixed shares answers enters f0 l0
 
   pub does_split : (id n : ℕ) (v : View C R F) → v.spent ≡ false → v.number ≡ 0 → v.top < n → Splits Rule id v (giving n v) (newcomer n v)
   does_split id n v live zeroth above s r at =
@@ -41,12 +44,13 @@ module _ {S C R F : Type 0} (log : S → List (Entry C R)) (fixed : S → F) (sh
       let seat : ℕ → maybe.Option ℕ = put r.past.seat n (some j) in
       let p : Past C R F = record r.past { seat = seat; top = n; given = r.past.given ++ n ∷ [] } in
       let stays : (m : ℕ) → m ≤ r.past.top → seat m ≡ r.past.seat m = λ m le. put_else r.past.seat n (some j) m (λ e. omega (arith, beyond, le, e)) in
-      let ended : (o : Own C R) → Ended r.past.seat r.past.since r.past.top o → Ended seat r.past.since n o = λ o d. record {
+      let ended : (o : Own C R) → Ended r.past.seat r.past.start r.past.since r.past.top o → Ended seat r.past.start r.past.since n o = λ o d. record {
         seat_is = stays o.number d.below ∙ d.seat_is;
         below = omega (arith, d.below, beyond);
+        seen_is = d.seen_is;
         mine_is = d.mine_is;
       } in
-      let old : (i : ℕ) (x : View C R F) → (x.number ≡ 0 → (x.top ≡ n) × (x.given ≡ p.given) × All (Ended seat r.past.since n) x.joined) → (y : View C R F)
+      let old : (i : ℕ) (x : View C R F) → (x.number ≡ 0 → (x.top ≡ n) × (x.given ≡ p.given) × All (Ended seat r.past.start r.past.since n) x.joined × Apart (numbers x)) → (y : View C R F)
       → Knows r.past i y
       → (x.spent ≡ y.spent) × (x.fixed ≡ y.fixed) × (x.start ≡ y.start) × (x.number ≡ y.number) × (x.seen ≡ y.seen) × (x.mine ≡ y.mine) × (x.known ≡ y.known)
       × (x.out ≡ y.out) → Knows p i x = λ i x firsts y q same. record {
@@ -72,9 +76,10 @@ module _ {S C R F : Type 0} (log : S → List (Entry C R)) (fixed : S → F) (sh
             (λ ne. given_more r.past.given n m (r.seated m i (sym (put_else r.past.seat n (some j) m ne) ∙ is)));
         callers = All-weaker _ _ (λ e h. given_more r.past.given n e.caller h) r.past.since r.callers;
         shared = r.shared;
+        grown = r.grown;
         each = λ i x here alive. ⊎_elim
             (λ (h : get_elem? vs i ≡ some x). each_set p s.views id w
-            (λ _. old id w (λ _. (refl, ap (λ l. l ++ n ∷ []) top_is.1, All-weaker _ _ ended v.joined top_is.2)) v k
+            (λ _. old id w (λ _. (refl, ap (λ l. l ++ n ∷ []) top_is.1, All-weaker _ _ ended v.joined top_is.2, top_is.3)) v k
             (refl, refl, refl, refl, refl, refl, refl, refl))
             (λ i' x' other there alive'. let q = r.each i' x' there alive' in
             old i' x' (λ z. absurd (other (some-injective i' id (sym q.seat_is ∙ (ap r.past.seat (z ∙ sym zeroth) ∙ k.seat_is))))) x' q
@@ -106,16 +111,27 @@ module _ {S C R F : Type 0} (log : S → List (Entry C R)) (fixed : S → F) (sh
       let p : Past C R F = record r.past { seat = seat } in
       let keeps_seat : (m i : ℕ) → i ≢ other → r.past.seat m ≡ some i → seat m ≡ some i =
       λ m i ne is. put_else r.past.seat w.number none m (λ e. ne (some-injective i other (sym is ∙ (ap r.past.seat e ∙ kw.seat_is)))) ∙ is in
-      let ended : (o : Own C R) → Ended r.past.seat r.past.since r.past.top o → Ended seat r.past.since r.past.top o = λ o d. record {
+      let ended : (o : Own C R) → Ended r.past.seat r.past.start r.past.since r.past.top o → Ended seat r.past.start r.past.since r.past.top o = λ o d. record {
         seat_is = put_none r.past.seat w.number o.number d.seat_is;
         below = d.below;
+        seen_is = d.seen_is;
         mine_is = d.mine_is;
       } in
-      let ends : Ended seat r.past.since r.past.top (own_of w) = record {
+      let ends : Ended seat r.past.start r.past.since r.past.top (own_of w) = record {
         seat_is = put_here r.past.seat w.number none w.number refl;
         below = kw.below;
+        seen_is = kw.seen_is;
         mine_is = kw.mine_is;
       } in
+      -- the number of the other has a seat of its own
+      let not_first : w.number ≢ v.number = λ e. apart (sym (some-injective id other (sym k.seat_is ∙ (ap r.past.seat (sym e) ∙ kw.seat_is)))) in
+      let not_ended : (o : Own C R) → Ended r.past.seat r.past.start r.past.since r.past.top o → w.number ≢ o.number =
+      λ o d e. some-ne-none other (sym kw.seat_is ∙ (ap r.past.seat e ∙ d.seat_is)) in
+      let differs : All (λ m. w.number ≢ m) (numbers v) = All-map (λ m. w.number ≢ m) (λ (o : Own C R). o.number) (lists_of v)
+      (All-cons (λ (o : Own C R). w.number ≢ o.number) (own_of v) v.joined not_first
+      (All-weaker (Ended r.past.seat r.past.start r.past.since r.past.top) (λ (o : Own C R). w.number ≢ o.number) not_ended v.joined top_is.2)) in
+      let still_apart : Apart (numbers b) = subst (λ (ns : List ℕ). Apart (v.number ∷ ns)) (sym (map-append (λ (o : Own C R). o.number) v.joined (own_of w ∷ [])))
+      (apart_more (numbers v) w.number top_is.3 differs) in
       let vs = set s.views id b in record {
         past = p;
         fixed_past = r.fixed_past;
@@ -128,6 +144,7 @@ module _ {S C R F : Type 0} (log : S → List (Entry C R)) (fixed : S → F) (sh
         seated = λ m i is. r.seated m i (put_some r.past.seat w.number m i is);
         callers = r.callers;
         shared = r.shared;
+        grown = r.grown;
         each = λ i x here alive. each_set p vs other spent_view (λ sp. absurd (false≢true (sym sp))) (λ i x ne here alive. each_but p s.views id other b
             (λ _. record {
               fixed_is = k.fixed_is;
@@ -139,7 +156,7 @@ module _ {S C R F : Type 0} (log : S → List (Entry C R)) (fixed : S → F) (sh
               mine_is = k.mine_is;
               known_is = omega (arith, k.known_is, kw.known_is);
               turn_is = λ o. absurd (false≢true (sym idle ∙ o));
-              top_is = λ _. (top_is.0, top_is.1, All-push (Ended seat r.past.since r.past.top) v.joined (own_of w) (All-weaker _ _ ended v.joined top_is.2) ends);
+              top_is = λ _. (top_is.0, top_is.1, All-push (Ended seat r.past.start r.past.since r.past.top) v.joined (own_of w) (All-weaker _ _ ended v.joined top_is.2) ends, still_apart);
             })
             (λ i' x' away ne' there alive'. let q = r.each i' x' there alive' in record {
               fixed_is = q.fixed_is;
@@ -150,6 +167,6 @@ module _ {S C R F : Type 0} (log : S → List (Entry C R)) (fixed : S → F) (sh
               mine_is = q.mine_is;
               known_is = q.known_is;
               turn_is = q.turn_is;
-              top_is = λ z. let h = q.top_is z in (h.0, h.1, All-weaker _ _ ended x'.joined h.2);
+              top_is = λ z. let h = q.top_is z in (h.0, h.1, All-weaker _ _ ended x'.joined h.2, h.3);
             }) i x ne here alive) i x here alive;
       }

@@ -17,15 +17,15 @@ module _ {C R F : Type 0} where
       (All-contains_itself v.given)
 
   -- each list has the log's entries of its number, where the log began empty
-  pub lists_of_log : (shares : C → Type 0) (v : View C R F) (l : List (Entry C R)) → v.start ≡ [] → Closes shares v l
+  pub lists_of_log : {Call Reply : Type 0} (shares : C → Type 0) (answers : F → List (Entry C R) → ℕ → Call → Reply → Type 0) (enters : F → List (Entry C R) → ℕ → Call → Reply → Entry C R → Type 0) (f : F) (v : View C R F) (l : List (Entry C R)) → v.start ≡ [] → Closes shares answers enters f v l
       → All (λ (o : Own C R). o.entries ≡ own_entries o.number l) (lists_of v)
-  lists_of_log shares v l start closes =
+  lists_of_log shares answers enters f v l start closes =
       let all : l ≡ closes.since = closes.log_is ∙ ap (λ (s : List (Entry C R)). s ++ closes.since) start in
       subst (λ (s : List (Entry C R)). All (λ (o : Own C R). o.entries ≡ own_entries o.number s) (lists_of v)) (sym all) closes.lists
 
   -- each entry is of one of the numbers, where the log began empty
-  pub callers_of_log : (shares : C → Type 0) (v : View C R F) (l : List (Entry C R)) → v.start ≡ [] → Closes shares v l
+  pub callers_of_log : {Call Reply : Type 0} (shares : C → Type 0) (answers : F → List (Entry C R) → ℕ → Call → Reply → Type 0) (enters : F → List (Entry C R) → ℕ → Call → Reply → Entry C R → Type 0) (f : F) (v : View C R F) (l : List (Entry C R)) → v.start ≡ [] → Closes shares answers enters f v l
       → All (λ (e : Entry C R). Contains (numbers v) e.caller) l
-  callers_of_log shares v l start closes =
+  callers_of_log shares answers enters f v l start closes =
       let all : l ≡ closes.since = closes.log_is ∙ ap (λ (s : List (Entry C R)). s ++ closes.since) start in
       subst (All (λ (e : Entry C R). Contains (numbers v) e.caller)) (sym all) closes.callers

@@ -8,6 +8,7 @@ use lib.ListN.{get_elem?}
 use Rattle.atomic_table.proofs.Lists.{at_set, set_here, set_else}
 use Rattle.std.specs.Prelude.{All}
 use Rattle.lr_object.specs.declared.entry.Entry.{Entry}
+use Rattle.lr_object.specs.Grown.{Grown}
 use Rattle.lr_turn.specs.declared.view.View.{View}
 use Rattle.lr_turn.specs.Kept.{Past, counted, Knows}
 use Rattle.lr_turn.specs.Called.{Fits}
@@ -46,14 +47,16 @@ module _ {C R F : Type 0} where
   }
 
   -- the counted log fits each pass
-  pub fits : (shares : C → Type 0) (p : Past C R F) (i : ℕ) (v : View C R F) (l : List (Entry C R)) → l ≡ counted p → All (λ e. shares e.call) p.since → Knows p i v
-      → Fits shares v l
-  fits shares p i v l e all k = record {
+  pub fits : {Call Reply : Type 0} (shares : C → Type 0) (answers : F → List (Entry C R) → ℕ → Call → Reply → Type 0) (enters : F → List (Entry C R) → ℕ → Call → Reply → Entry C R → Type 0)
+      (p : Past C R F) (i : ℕ) (v : View C R F) (f : F) (l : List (Entry C R)) → f ≡ p.fixed → l ≡ counted p → All (λ e. shares e.call) p.since
+      → Grown answers enters p.fixed p.start (counted p) → Knows p i v → Fits shares answers enters f v l
+  fits shares answers enters p i v f l f_is e all g k = record {
     since = p.since;
     log_is = e ∙ ap (λ w. w ++ p.since) (sym k.start_is);
     seen_is = subst (IsPrefix v.seen) (sym e) k.seen_is;
     mine_is = sym k.mine_is;
     shared = all;
+    grown = subst (λ (z : F × List (Entry C R) × List (Entry C R)). Grown answers enters z.0 z.1 z.2) (λ t. (sym f_is t, sym k.start_is t, sym e t)) g;
   }
 
   -- the seat at this place has the turn

@@ -5,7 +5,7 @@ use Rattle.lr_object.specs.declared.entry.Entry.{Entry}
 use Rattle.lr_turn.specs.declared.view.View.{View}
 use Rattle.lr_turn.specs.Views.{seeing, taking, counting, leaving}
 use Rattle.lr_turn.specs.Called.{Fits, Called}
-use Rattle.lr_turn.specs.Steps.{Applied}
+use Rattle.lr_turn.specs.Steps.{Applied, MayCount}
 use Rattle.lr_turn.proofs.Lists.{last_same}
 
 module _ {S C R F Call Reply : Type 0} (log : S → List (Entry C R)) (fixed : S → F) (opens : Call → Type 0) (shares : C → Type 0) (logged : Reply → Bool)
@@ -19,10 +19,11 @@ module _ {S C R F Call Reply : Type 0} (log : S → List (Entry C R)) (fixed : S
 
   -- what is counted, after a call that grew the log
   pub noted : (v : View C R F) (y0 : S) (m m1 : Me S (View C R F)) (caller : ℕ) (call : Call) (reply : Reply) (before after : ℕ)
-      → m ≡ (taking v (log y0), (0, y0) ∷ []) → caller ≡ v.number → opens call
+      → m ≡ (taking v (log y0), (0, y0) ∷ []) → v.fixed ≡ Some (fixed y0) → caller ≡ v.number → opens call
       → Applied log fixed opens shares logged answers enters m m1 caller call reply before after → before < after → (q : Bool) → logged reply ≡ q
       → (y : S) × (e : Entry C R) × (m1.1 ≡ (0, y) ∷ []) × (log y ≡ m1.0.seen ++ e ∷ []) × (e.caller ≡ m1.0.number) × shares e.call × (after ≡ length (log y))
-  noted v y0 m m1 caller call reply before after is mine granted did grew true q =
+      × MayCount answers enters m1.0 e
+  noted v y0 m m1 caller call reply before after is stays mine granted did grew true q =
       let g = subst (λ (b : Bool). MatchBool b (Grew did.0 did.1 caller call reply) (log did.1 ≡ log did.0)) q did.6 in
       let same : did.0 ≡ y0 = in_hand did.0 y0 (sym did.2 ∙ ap (λ (n : Me S (View C R F)). n.1) is) in
       let view : m1.0 ≡ taking v (log y0) = ap (λ (n : Me S (View C R F)). n.0) did.3 ∙ ap (λ (n : Me S (View C R F)). n.0) is in (
@@ -33,8 +34,16 @@ module _ {S C R F Call Reply : Type 0} (log : S → List (Entry C R)) (fixed : S
         g.2 ∙ (mine ∙ sym (ap (λ (u : View C R F). u.number) view)),
         g.4 granted,
         did.8,
+        subst (λ (u : View C R F). MayCount answers enters u g.0) (sym view) (record {
+          fixed = fixed y0;
+          call = call;
+          reply = reply;
+          fixed_is = stays;
+          answered = subst (λ (z : S × ℕ). answers (fixed z.0) (log z.0) z.1 call reply) (λ i. (same i, sym g.2 i)) did.5;
+          entered = subst (λ (z : S × ℕ). enters (fixed z.0) (log z.0) z.1 call reply g.0) (λ i. (same i, sym g.2 i)) g.3;
+        }),
       )
-  noted v y0 m m1 caller call reply before after is mine granted did grew false q =
+  noted v y0 m m1 caller call reply before after is stays mine granted did grew false q =
       let g = subst (λ (b : Bool). MatchBool b (Grew did.0 did.1 caller call reply) (log did.1 ≡ log did.0)) q did.6 in
       let n = ap (λ (l : List (Entry C R)). length l) g in
       absurd (omega (arith, n, did.7, did.8, grew))
@@ -46,7 +55,7 @@ module _ {S C R F Call Reply : Type 0} (log : S → List (Entry C R)) (fixed : S
       ⊎ ((after ≤ before) × (w ≡ leaving m1.0))
 
   pub called : (v w : View C R F) (y0 : S) (m m1 : Me S (View C R F)) (caller : ℕ) (call : Call) (reply : Reply) (before after : ℕ)
-      → m ≡ (taking v (log y0), (0, y0) ∷ []) → v.fixed ≡ Some (fixed y0) → Fits shares v (log y0) → v.out ≡ false → opens call
+      → m ≡ (taking v (log y0), (0, y0) ∷ []) → v.fixed ≡ Some (fixed y0) → Fits shares answers enters (fixed y0) v (log y0) → v.out ≡ false → opens call
       → Applied log fixed opens shares logged answers enters m m1 caller call reply before after → Ways w m1 before after
       → (q : Bool) → logged reply ≡ q → Called shares logged answers enters v w caller call reply
   called v w y0 m m1 caller call reply before after is stays fit idle granted did path true q =

@@ -1,4 +1,5 @@
 pub mod Views
+pub mod Called
 pub mod Kept
 pub mod Steps
-pub mod Called
+pub mod Shown

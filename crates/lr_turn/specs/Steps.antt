@@ -7,17 +7,29 @@ use Rattle.lr_turn.specs.Views.{taking, counting, leaving, knowing}
 use Rattle.lr_turn.specs.Called.{Fits}
 
 module _ {S C R F : Type 0} (log : S → List (Entry C R)) (fixed : S → F) where
-  -- the turn was taken: the object is in hand, and its log fits
-  abbrev pub Taken : (C → Type 0) → Me S (View C R F) → Me S (View C R F) → Type 0
-  Taken shares m m' = (y : S) × (m' ≡ (taking m.0 (log y), (0, y) ∷ [])) × (m.0.fixed ≡ Some (fixed y)) × Fits shares m.0 (log y)
-
-  -- where word 1 was 0 the turn was taken, and else another pass has it
-  abbrev pub takes : (C → Type 0) → Step S → Me S (View C R F) → ℕ → Me S (View C R F) → Type 0
-  takes shares st m n m' = (n ≡ 0 → Taken shares m m') × (n ≢ 0 → m' ≡ m)
-
   -- the entry that the object in hand has more than was seen was counted
   abbrev pub counts : Step S → Me S (View C R F) → ℕ → Me S (View C R F) → Type 0
   counts st m n m' = (m'.1 ≡ m.1) × ((y : S) (e : Entry C R) → m.1 ≡ (0, y) ∷ [] → log y ≡ m.0.seen ++ e ∷ [] → m'.0 ≡ counting m.0 e)
+
+module _ {S C R F Call Reply : Type 0} (log : S → List (Entry C R)) (fixed : S → F) (shares : C → Type 0)
+    (answers : F → List (Entry C R) → ℕ → Call → Reply → Type 0) (enters : F → List (Entry C R) → ℕ → Call → Reply → Entry C R → Type 0) where
+  -- the turn was taken: the object is in hand, and its log fits
+  abbrev pub Taken : Me S (View C R F) → Me S (View C R F) → Type 0
+  Taken m m' = (y : S) × (m' ≡ (taking m.0 (log y), (0, y) ∷ [])) × (m.0.fixed ≡ Some (fixed y)) × Fits shares answers enters (fixed y) m.0 (log y)
+
+  -- where word 1 was 0 the turn was taken, and else another pass has it
+  abbrev pub takes : Step S → Me S (View C R F) → ℕ → Me S (View C R F) → Type 0
+  takes st m n m' = (n ≡ 0 → Taken m m') × (n ≢ 0 → m' ≡ m)
+
+-- the entry is of a call that the object answered so after the log that was seen
+pub record MayCount {C R F Call Reply : Type 0} (answers : F → List (Entry C R) → ℕ → Call → Reply → Type 0)
+    (enters : F → List (Entry C R) → ℕ → Call → Reply → Entry C R → Type 0) (v : View C R F) (e : Entry C R) : Type 0 where
+  pub fixed : F
+  pub call : Call
+  pub reply : Reply
+  pub fixed_is : v.fixed ≡ Some fixed
+  pub answered : answers fixed v.seen e.caller call reply
+  pub entered : enters fixed v.seen e.caller call reply e
 
 -- the turn was given back, with the object
 abbrev pub leaves : {S C R F : Type 0} → Step S → Me S (View C R F) → ℕ → Me S (View C R F) → Type 0

@@ -81,9 +81,9 @@ module _ {C R F : Type 0} where
     joined = [];
   }
 
-  -- a number with the entries of its pass
+  -- a number with what its pass has seen and the entries that it made
   abbrev pub own_of : View C R F → Own C R
-  own_of v = record { number = v.number; entries = v.mine }
+  own_of v = record { number = v.number; seen = v.seen; entries = v.mine }
 
   -- a pass was joined
   abbrev pub joining : View C R F → View C R F → View C R F

@@ -13,8 +13,6 @@ mod pass;
 mod plays;
 mod rule;
 mod shared;
-#[cfg(test)]
-mod tests;
 mod view;
 
 pub use joined::Joined;

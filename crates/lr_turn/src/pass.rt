@@ -8,8 +8,8 @@ use lr_object::Object;
 /// The token, by what the object's entries and its fixed part are. Between calls it hasn't the turn.
 #[derive(Drop)]
 pub struct PassOf<S, C, R, F> {
-    /// The seat on the object's table; contracts read what the pass knows as `place.me.0`.
-    pub place: Seat<S, View<C, R, F>>,
+    // The seat on the object's table. Contracts read what it shows by `seat_of` and `known_by`.
+    pub(crate) place: Seat<S, View<C, R, F>>,
     /// The caller's number, which entries tell.
     pub number: u32,
     ghost number_is: { place.me.0.number ≡ number },

@@ -13,7 +13,7 @@ use std::marker::{Brand, PhantomData};
 pub(crate) struct Take;
 
 impl<S: Object> Play<S, Known<S>> for Take {
-    ghost then = { takes S.log S.fixed S.shares };
+    ghost then = { takes S.log S.fixed S.shares S.answers S.enters };
 }
 
 /// The caller's entry is counted.

@@ -21,7 +21,7 @@ impl<S: Object> TableRule<S, View<S::Noted, S::Told, S::Fixed>, Snapshot<S>> for
     ghost use Rattle.lr_turn.specs.Kept.{Kept};
     ghost use Rattle.lr_turn.specs.Views.{first_view};
 
-    ghost holds = { λ key. Kept S.log S.fixed S.shares (S.fixed key.value) (S.log key.value) };
+    ghost holds = { λ key. Kept S.log S.fixed S.shares S.answers S.enters (S.fixed key.value) (S.log key.value) };
 
     ghost first = { λ key. first_view (S.fixed key.value) (S.log key.value) };
 }

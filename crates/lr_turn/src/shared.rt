@@ -3,7 +3,7 @@ ghost use Rattle.std.specs.Prelude.{◌≡◌, ◌<◌, ◌≤◌, [], ◌∷◌
 ghost use Rattle.lr_object.specs.declared.entry.Entry.{Entry};
 ghost use Rattle.lr_turn.specs.Views.{first_view, knowing, giving, newcomer, joining, leaving, counting, lists_of};
 ghost use Rattle.lr_turn.specs.Called.{Called, AllJoined, Closes};
-ghost use Rattle.lr_turn.specs.Steps.{Taken, Applied};
+ghost use Rattle.lr_turn.specs.Steps.{Taken, Applied, MayCount};
 
 use crate::joined::{Joined, remember};
 use crate::pass::{Pass, PassOf};
@@ -23,8 +23,8 @@ const TRIES: u32 = 100;
 /// An object that many callers share. Each calls it through a pass of its own, and their calls take turns.
 #[derive(Drop)]
 pub struct Shared<S: Object> {
-    /// The object and its number of entries; a pass belongs to it where their `table_id` is the same.
-    pub table: Board<S>,
+    // The object and its number of entries; a pass belongs to it where its seat is on this table.
+    table: Board<S>,
     ghost sized: { (table.shared.table_id.words ≡ 2) × (table.shared.table_id.slots ≡ 1) },
 }
 
@@ -48,9 +48,11 @@ fn only<S>(refused: Refused<S, Global>) -> S
 }
 
 impl<S: Object> Shared<S> {
+    ghost use Rattle.lr_turn.specs.Shown.{seat_of, known_by, table_of, first_of};
+
     /// Shares an object, and gives the first pass. For want of memory the object comes back.
     pub fn new(alloc: Global, state: S) -> Result<(Shared<S>, Pass<S>), NoMemory<S>>
-        ensures ok { IfOk result (λ t. (t.1.place.table_id ≡ t.0.table.shared.table_id) × (t.1.number ≡ 0) × (t.1.place.me.0 ≡ first_view (S.fixed state) (S.log state)) × (t.0.table.shared.key.value ≡ state)) }
+        ensures ok { IfOk result (λ t. (seat_of t.1 ≡ table_of t.0) × (t.1.number ≡ 0) × (known_by t.1 ≡ first_view (S.fixed state) (S.log state)) × (first_of t.0 ≡ state)) }
         ensures err { IfErr result (λ e. e.state ≡ state) }
     {
         let Ok(mut slots) = Vec::with_capacity(alloc, 1) else {
@@ -69,10 +71,10 @@ impl<S: Object> Shared<S> {
 
     /// A pass for one more number, which is above all given out. It takes no memory.
     pub fn split(&self, first: &mut Pass<S>, number: u32) -> Pass<S>
-        requires own { first.old.place.table_id ≡ self.now.table.shared.table_id }
-        requires first { (first.old.number ≡ 0) × (first.old.place.me.0.top < number) }
-        ensures first { (first.new.place.table_id ≡ first.old.place.table_id) × (first.new.number ≡ 0) × (first.new.place.me.0 ≡ giving number first.old.place.me.0) }
-        ensures new { (result.place.table_id ≡ first.old.place.table_id) × (result.number ≡ number) × (result.place.me.0 ≡ newcomer number first.old.place.me.0) }
+        requires own { seat_of first.old ≡ table_of self.now }
+        requires first { (first.old.number ≡ 0) × ((known_by first.old).top < number) }
+        ensures first { (seat_of first.new ≡ seat_of first.old) × (first.new.number ≡ 0) × (known_by first.new ≡ giving number (known_by first.old)) }
+        ensures new { (seat_of result ≡ seat_of first.old) × (result.number ≡ number) × (known_by result ≡ newcomer number (known_by first.old)) }
     {
         let place = self.cut_at(&mut first.place, number);
         PassOf { place, number }
@@ -87,11 +89,11 @@ impl<S: Object> Shared<S> {
         pass: &mut Pass<S>,
         call: S::Call,
     ) -> S::Reply
-        requires own { pass.old.place.table_id ≡ self.now.table.shared.table_id }
+        requires own { seat_of pass.old ≡ table_of self.now }
         requires may { S.may call }
         requires opens { S.opens call }
-        ensures same { (pass.new.place.table_id ≡ pass.old.place.table_id) × (pass.new.number ≡ pass.old.number) }
-        ensures called { Called S.shares S.logged S.answers S.enters pass.old.place.me.0 pass.new.place.me.0 pass.old.number call result }
+        ensures same { (seat_of pass.new ≡ seat_of pass.old) × (pass.new.number ≡ pass.old.number) }
+        ensures called { Called S.shares S.logged S.answers S.enters (known_by pass.old) (known_by pass.new) pass.old.number call result }
     {
         let number = pass.number;
         self.take(rt, &mut pass.place);
@@ -105,19 +107,19 @@ impl<S: Object> Shared<S> {
 
     /// The number of entries now, which the pass knows from then on.
     pub fn count(&self, pass: &mut Pass<S>) -> u64
-        requires { pass.old.place.table_id ≡ self.now.table.shared.table_id }
-        ensures same { (pass.new.place.table_id ≡ pass.old.place.table_id) × (pass.new.number ≡ pass.old.number) }
-        ensures known { pass.new.place.me.0 ≡ knowing pass.old.place.me.0 result }
-        ensures least { (length pass.old.place.me.0.seen ≤ result) × (pass.old.place.me.0.known ≤ result) }
+        requires { seat_of pass.old ≡ table_of self.now }
+        ensures same { (seat_of pass.new ≡ seat_of pass.old) × (pass.new.number ≡ pass.old.number) }
+        ensures known { known_by pass.new ≡ knowing (known_by pass.old) result }
+        ensures least { (length (known_by pass.old).seen ≤ result) × ((known_by pass.old).known ≤ result) }
     {
         self.table.shared.load::<Tell>(&mut pass.place, COUNT)
     }
 
     /// A pass ends, and the first one takes in what it knew. It takes no memory.
     pub fn join(&self, first: &mut Pass<S>, other: Pass<S>)
-        requires own { (first.old.place.table_id ≡ self.now.table.shared.table_id) × (other.place.table_id ≡ self.now.table.shared.table_id) }
+        requires own { (seat_of first.old ≡ table_of self.now) × (seat_of other ≡ table_of self.now) }
         requires first { first.old.number ≡ 0 }
-        ensures first { (first.new.place.table_id ≡ first.old.place.table_id) × (first.new.number ≡ 0) × (first.new.place.me.0 ≡ joining first.old.place.me.0 other.place.me.0) }
+        ensures first { (seat_of first.new ≡ seat_of first.old) × (first.new.number ≡ 0) × (known_by first.new ≡ joining (known_by first.old) (known_by other)) }
     {
         let PassOf { place, number: _ } = other;
         self.table.shared.join_seat::<Glue>(&mut first.place, place);
@@ -126,13 +128,13 @@ impl<S: Object> Shared<S> {
     /// The object, once each pass that was given out has been joined, and the lists of the entries of each. It takes
     /// no memory.
     pub fn close(self, first: Pass<S>) -> (S, Joined<S::Noted, S::Told, S::Fixed>)
-        requires own { first.place.table_id ≡ self.table.shared.table_id }
+        requires own { seat_of first ≡ table_of self }
         requires first { first.number ≡ 0 }
-        requires joined { AllJoined first.place.me.0 }
-        ensures fixed { (first.place.me.0.fixed ≡ Some (S.fixed result.0)) × (S.fixed result.0 ≡ S.fixed self.table.shared.key.value) }
-        ensures start { first.place.me.0.start ≡ S.log self.table.shared.key.value }
-        ensures log { Closes S.shares first.place.me.0 (S.log result.0) }
-        ensures lists { result.1 ≡ lists_of first.place.me.0 }
+        requires joined { AllJoined (known_by first) }
+        ensures fixed { ((known_by first).fixed ≡ Some (S.fixed result.0)) × (S.fixed result.0 ≡ S.fixed (first_of self)) }
+        ensures start { (known_by first).start ≡ S.log (first_of self) }
+        ensures log { Closes S.shares S.answers S.enters (S.fixed result.0) (known_by first) (S.log result.0) }
+        ensures lists { result.1 ≡ lists_of (known_by first) }
     {
         let PassOf { place, number } = first;
         let (place, joined) = remember(place);
@@ -147,7 +149,7 @@ impl<S: Object> Shared<S> {
         requires own { place.old.table_id ≡ self.now.table.shared.table_id }
         requires idle { (place.old.me.1 ≡ []) × (place.old.me.0.spent ≡ false) }
         ensures same { place.new.table_id ≡ place.old.table_id }
-        ensures took { MatchBool result (Taken S.log S.fixed S.shares place.old.me place.new.me) (place.new.me ≡ place.old.me) }
+        ensures took { MatchBool result (Taken S.log S.fixed S.shares S.answers S.enters place.old.me place.new.me) (place.new.me ≡ place.old.me) }
     {
         for _ in 0..TRIES {
             let found = self
@@ -167,7 +169,7 @@ impl<S: Object> Shared<S> {
         requires own { place.old.table_id ≡ self.now.table.shared.table_id }
         requires idle { (place.old.me.1 ≡ []) × (place.old.me.0.spent ≡ false) }
         ensures same { place.new.table_id ≡ place.old.table_id }
-        ensures took { Taken S.log S.fixed S.shares place.old.me place.new.me }
+        ensures took { Taken S.log S.fixed S.shares S.answers S.enters place.old.me place.new.me }
     {
         for _ in rt.forever() {
             if self.table.shared.swap::<Take>(place, TURN, 2) == 0 {
@@ -183,7 +185,7 @@ impl<S: Object> Shared<S> {
         requires own { place.old.table_id ≡ self.now.table.shared.table_id }
         requires idle { (place.old.me.1 ≡ []) × (place.old.me.0.spent ≡ false) }
         ensures same { place.new.table_id ≡ place.old.table_id }
-        ensures took { Taken S.log S.fixed S.shares place.old.me place.new.me }
+        ensures took { Taken S.log S.fixed S.shares S.answers S.enters place.old.me place.new.me }
     {
         if self.try_take(place) {
             return;
@@ -216,7 +218,7 @@ impl<S: Object> Shared<S> {
     fn note(&self, place: &mut Place<S>, entries: u64)
         requires own { place.old.table_id ≡ self.now.table.shared.table_id }
         requires turn { (place.old.me.0.spent ≡ false) × (place.old.me.0.out ≡ true) }
-        requires held { (y : S) × (e : Entry S.Noted S.Told) × (place.old.me.1 ≡ (0, y) ∷ []) × (S.log y ≡ place.old.me.0.seen ++ e ∷ []) × (e.caller ≡ place.old.me.0.number) × S.shares e.call × (entries ≡ length (S.log y)) }
+        requires held { (y : S) × (e : Entry S.Noted S.Told) × (place.old.me.1 ≡ (0, y) ∷ []) × (S.log y ≡ place.old.me.0.seen ++ e ∷ []) × (e.caller ≡ place.old.me.0.number) × S.shares e.call × (entries ≡ length (S.log y)) × MayCount S.answers S.enters place.old.me.0 e }
         ensures same { place.new.table_id ≡ place.old.table_id }
         ensures noted { (y : S) × (e : Entry S.Noted S.Told) × (place.old.me.1 ≡ (0, y) ∷ []) × (S.log y ≡ place.old.me.0.seen ++ e ∷ []) × (place.new.me ≡ (counting place.old.me.0 e, (0, y) ∷ [])) }
     {
@@ -263,7 +265,7 @@ impl<S: Object> Shared<S> {
         requires joined { AllJoined first.place.me.0 }
         ensures fixed { (first.place.me.0.fixed ≡ Some (S.fixed result)) × (S.fixed result ≡ S.fixed self.table.shared.key.value) }
         ensures start { first.place.me.0.start ≡ S.log self.table.shared.key.value }
-        ensures log { Closes S.shares first.place.me.0 (S.log result) }
+        ensures log { Closes S.shares S.answers S.enters (S.fixed result) first.place.me.0 (S.log result) }
     {
         let PassOf { place, number: _ } = first;
         let Shared { table } = self;

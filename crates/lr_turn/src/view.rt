@@ -3,9 +3,10 @@ use lr_object::Entry;
 use std::alloc::Global;
 use std::collections::LinkedList;
 
-/// A number, and the entries that its pass made, in their order.
+/// A number, the beginning of the object's log that its pass has seen, and the entries that it made, in their order.
 pub struct Own<C, R> {
     pub number: u32,
+    pub seen: LinkedList<Entry<C, R>, Global>,
     pub entries: LinkedList<Entry<C, R>, Global>,
 }
 

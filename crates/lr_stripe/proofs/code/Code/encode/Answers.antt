@@ -2,6 +2,7 @@ use Rattle.std.proofs.Common.{◌≡◌, ℕ, ◌*◌, List, length, sym, ap, su
 use Rattle.lr_field.specs.Polynomial.{GivesValue, IsDistinct, weighted}
 use Rattle.lr_stripe.specs.Code.{column}
 use Rattle.lr_stripe.proofs.Columns.{IsDistinct-points, is_stripe}
+use Rattle.lr_stripe.proofs.Rebuilt.{part_is_stripe}
 use Rattle.lr_stripe.proofs.code.Code.encode.Goals as goal
 
 pub weights-w-requires : goal.weights-w-requires
@@ -17,3 +18,10 @@ returns g c =
     is_stripe g.row.K c.args.j w chunk out (omega arith) (c.requires.parts ∙ ap (λ (n : ℕ). g.row.K * n) same) (λ i. omega (arith, c.type_inv.chunk i))
     (subst (λ (ps : List ℕ). GivesValue w ps c.args.j) c.first_points.ensures c.weights-w.ensures)
     (λ t lt. c.mix.ensures t lt ∙ (λ k. weighted (c.as_slice.ensures k) (column (long k) (length out) t chunk)))
+
+pub returns-then-j : goal.returns-then-j
+returns-then-j g c =
+    let out : List ℕ = c.copy_part.new.out in
+    let chunk : List ℕ = c.args.chunk.now in
+    let same : length c.args.out.now ≡ length out = omega arith in
+    part_is_stripe g.row.K c.args.j chunk out (omega arith) (omega arith) (c.requires.parts ∙ ap (λ (n : ℕ). g.row.K * n) same) (λ i. omega (arith, c.type_inv.chunk i)) c.copy_part.ensures

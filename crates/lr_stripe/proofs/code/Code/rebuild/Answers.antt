@@ -1,6 +1,6 @@
-use Rattle.std.proofs.Common.{◌≡◌, ℕ, ◌+◌, ◌-◌, ◌*◌, ◌/◌, ◌<◌, ◌≤◌, List, length, slice_index, sym, ap, subst, ◌∙◌, arith, mul_comm}
+use Rattle.std.proofs.Common.{◌≡◌, ℕ, ◌+◌, ◌-◌, ◌*◌, ◌/◌, ◌≤◌, List, length, slice_index, sym, ap, subst, ◌∙◌, arith, mul_comm}
 use Rattle.std.proofs.lemmas.Grind.{same_number_lists}
-use Rattle.lr_stripe.specs.Code.{AreStripes, part_of}
+use Rattle.lr_stripe.specs.Code.{AreStripes}
 use Rattle.lr_stripe.proofs.Columns.{part_within, length-part_of}
 use Rattle.lr_stripe.proofs.Rebuilt.{put_mid_at}
 use Rattle.lr_stripe.proofs.code.Code.rebuild.Goals as goal

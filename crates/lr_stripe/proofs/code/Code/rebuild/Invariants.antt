@@ -1,4 +1,4 @@
-use Rattle.std.proofs.Common.{◌≡◌, ◌<◌, ◌*◌, ℕ, List, slice_index, length}
+use Rattle.std.proofs.Common.{◌≡◌, ◌<◌, ◌*◌, ℕ, List, slice_index}
 use Rattle.lr_stripe.specs.Code.{AreStripes}
 use Rattle.lr_stripe.proofs.code.Code.rebuild.Given as goal
 

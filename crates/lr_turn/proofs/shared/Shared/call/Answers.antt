@@ -7,7 +7,7 @@ use Rattle.lr_turn.proofs.shared.Shared.call.Goals as goal
 pub note-requires-clause-held : goal.note-requires-clause-held
 note-requires-clause-held g c = let o = g.S.Object in let t = c.take.ensures.took in
     noted o.log o.fixed o.opens o.shares o.logged o.answers o.enters c.args.pass.now.place.me.0 t.0 c.take.new.place.me c.run-reply.new.place.me c.args.pass.now.number c.args.call c.run-reply.result.0 c.run-reply.result.1 c.run-reply.result.2
-    t.1 (sym c.args.pass.now.number_is) c.requires.opens c.run-reply.ensures.applied c.if-before-after.true (o.logged c.run-reply.result.0) refl
+    t.1 t.2 (sym c.args.pass.now.number_is) c.requires.opens c.run-reply.ensures.applied c.if-before-after.true (o.logged c.run-reply.result.0) refl
 
 pub returns-clause-called : goal.returns-clause-called
 returns-clause-called g c = let o = g.S.Object in let t = c.take.ensures.took in

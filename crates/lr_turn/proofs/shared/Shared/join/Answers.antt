@@ -8,5 +8,5 @@ join_seat-requires g c = let size = c.args.self.now.sized in let v = c.args.firs
   c.requires.own.1,
   w.idle.0,
   omega (arith, size.0),
-  does_join g.S.Object.log g.S.Object.fixed g.S.Object.shares _ _ _ _ _ _ v.idle.1 v.idle.2 (v.number_is ∙ c.requires.first) w.idle.1 w.idle.2,
+  does_join g.S.Object.log g.S.Object.fixed g.S.Object.shares g.S.Object.answers g.S.Object.enters _ _ _ _ _ _ v.idle.1 v.idle.2 (v.number_is ∙ c.requires.first) w.idle.1 w.idle.2,
 )

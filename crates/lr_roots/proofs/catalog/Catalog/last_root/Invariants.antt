@@ -1,0 +1,10 @@
+use Rattle.lr_origin.specs.declared.key.KeyKind.TheVariants as kind
+use Rattle.lr_roots.specs.View.{Has}
+use Rattle.lr_roots.proofs.Downward.{NoneFrom}
+use Rattle.lr_roots.proofs.catalog.Catalog.last_root.Given as goal
+
+abbrev pub invariant-loop-root : goal.invariant-loop-root
+invariant-loop-root l = NoneFrom (λ q. Has l.self.view (kind.Manifest q l.image)) l.bound
+
+abbrev pub decreases-loop-root : goal.decreases-loop-root
+decreases-loop-root l = l.bound
