@@ -1,5 +1,5 @@
 -- The rules of a sound store that the keys of a view can break, each with the key that breaks it.
-use Rattle.std.specs.Prelude.{◌≡◌, ◌≢◌, ◌⊎◌, ◌<◌, ◌≤◌, ℕ, List, Some}
+use Rattle.std.specs.Prelude.{◌≡◌, ◌≢◌, ◌⊎◌, ◌<◌, ◌≤◌, ◌+◌, ℕ, List, Some}
 use Rattle.std.specs.FinMap as map
 use Rattle.lr_manifest.specs.Manifest.{ManifestFields}
 use Rattle.lr_origin.specs.declared.key.KeyKind.{KeyKind}
@@ -10,6 +10,10 @@ use Rattle.lr_roots.specs.Roots.{IsLive, IsGreatest, IsHomed, IsComplete}
 -- A root from 1 to this one isn't there.
 abbrev pub IsGap : View → ℕ → Type 0
 IsGap v r = (q : ℕ) × (1 ≤ q) × (q ≤ r) × Lacks v (Root q)
+
+-- Just so many roots are there one after another, from 1 on.
+abbrev pub IsUnbroken : View → ℕ → Type 0
+IsUnbroken v n = ((q : ℕ) → 1 ≤ q → q ≤ n → Has v (Root q)) × Lacks v (Root (n + 1))
 
 -- A root up to the key's own isn't there.
 abbrev pub LacksRoot : View → KeyKind → Type 0

@@ -8,7 +8,7 @@ use Rattle.lr_roots.specs.declared.walks.Wanted.{Wanted}
 use Rattle.lr_roots.specs.declared.walks.Wanted.TheVariants as wanted
 use Rattle.lr_roots.specs.View.{View, Has, Lacks}
 use Rattle.lr_roots.specs.Names.{Names, IsManifestOf, IsChunkOf, IsListed}
-use Rattle.lr_roots.specs.Foreign.{Breaks}
+use Rattle.lr_roots.specs.Foreign.{IsUnbroken, Breaks}
 
 -- The first key that names its image: its manifest in the first root that has one, else the key that withdraws it.
 abbrev pub NamesFirst : View → KeyKind → Type 0
@@ -16,9 +16,17 @@ NamesFirst v (Manifest r image) = (q : ℕ) → q < r → Lacks v (Manifest q im
 NamesFirst v (Withdrawn image) = (q : ℕ) → Lacks v (Manifest q image)
 NamesFirst v key = ⊥
 
+-- what is looked for knows the view
+abbrev pub Suits : View → Wanted → Type 0
+Suits v (wanted.Foreign n) = IsUnbroken v n
+Suits v (wanted.Listed r after) = Unit {0}
+Suits v (wanted.Manifests r) = Unit {0}
+Suits v (wanted.Chunks r) = Unit {0}
+Suits v wanted.Named = Unit {0}
+
 -- the key is what is looked for
 abbrev pub Passes : View → Wanted → KeyKind → Type 0
-Passes v wanted.Foreign key = Breaks v key
+Passes v (wanted.Foreign n) key = Breaks v key
 Passes v (wanted.Listed r after) key = IsListed r after key
 Passes v (wanted.Manifests r) key = IsManifestOf r key
 Passes v (wanted.Chunks r) key = IsChunkOf r key

@@ -116,19 +116,26 @@ impl Catalog {
         self.keys.remove(key);
     }
 
+    // What is kept of a key's object, where the key is in the view.
+    fn held_at(&self, key: &Key) -> Option<&Kept>
+        ensures { held_of result ≡ map.get self.now.view key.now }
+    {
+        if is_aside(&self.aside, key) {
+            return None;
+        }
+        self.keys.get(key)
+    }
+
     /// What is kept of the object of a kind, where its key is in the view.
     pub(crate) fn held(&self, kind: &KeyKind) -> Option<&Kept>
         ensures { held_of result ≡ map.get self.now.view kind.now }
     {
-        let aside = &self.aside;
+        // Each key is one of the grammar.
+        let _aside = &self.aside;
         if !kind.is_within() {
             return None;
         }
-        let key = Key::of(kind);
-        if is_aside(aside, &key) {
-            return None;
-        }
-        self.keys.get(&key)
+        self.held_at(&Key::of(kind))
     }
 
     pub(crate) fn has_kind(&self, kind: KeyKind) -> bool
@@ -141,7 +148,7 @@ impl Catalog {
     pub fn has(&self, key: &Key) -> bool
         ensures { IsTrue result ↔ Has self.now.view key.now }
     {
-        self.has_kind(key.kind())
+        self.held_at(key).is_some()
     }
 
     /// Whether the image's key `w/` is in the view.

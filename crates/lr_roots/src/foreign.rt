@@ -2,7 +2,8 @@
 ghost use Rattle.std.specs.Prelude.{◌≡◌, ◌↔◌, IsTrue};
 ghost use Rattle.lr_roots.specs.Keys.{key_of};
 ghost use Rattle.lr_roots.specs.Names.{IsFirst};
-ghost use Rattle.lr_roots.specs.Foreign.{LacksRoot, IsOutOfOrder, DiffersFromFirst, LacksChunk, LacksHome, Breaks, IsForeign};
+ghost use Rattle.lr_roots.specs.View.{View};
+ghost use Rattle.lr_roots.specs.Foreign.{IsUnbroken, LacksRoot, IsOutOfOrder, DiffersFromFirst, LacksChunk, LacksHome, Breaks, IsForeign};
 
 use crate::catalog::Catalog;
 use crate::walks::Wanted;
@@ -40,6 +41,20 @@ fn is_same(a: &Manifest, b: &Manifest) -> bool
     are_same_keys(a.sealed(), b.sealed())
 }
 
+// Whether a root up to the key's own isn't there, in a view with just so many roots one after another from 1 on.
+fn lacks_root(unbroken: u32, kind: &KeyKind) -> bool
+    ensures { (v : View) → IsUnbroken v unbroken → IsTrue result ↔ LacksRoot v kind.now }
+{
+    match *kind {
+        KeyKind::Root(root)
+        | KeyKind::Expired(root)
+        | KeyKind::Deleted(root)
+        | KeyKind::Chunk(root, _)
+        | KeyKind::Manifest(root, _) => unbroken < root,
+        KeyKind::Withdrawn(_) => false,
+    }
+}
+
 impl Catalog {
     /// The first key of the view, in byte order, that breaks a rule of a sound store.
     ///
@@ -51,21 +66,8 @@ impl Catalog {
     pub fn foreign(&self) -> Option<&Key>
         ensures { IsFirst (IsForeign self.now.view) (key_of result) }
     {
-        self.first(&Wanted::Foreign)
-    }
-
-    // Whether a root up to the key's own isn't there.
-    fn lacks_root(&self, kind: &KeyKind) -> bool
-        ensures { IsTrue result ↔ LacksRoot self.now.view kind.now }
-    {
-        match *kind {
-            KeyKind::Root(root)
-            | KeyKind::Expired(root)
-            | KeyKind::Deleted(root)
-            | KeyKind::Chunk(root, _)
-            | KeyKind::Manifest(root, _) => self.gap(root).is_some(),
-            KeyKind::Withdrawn(_) => false,
-        }
+        let unbroken = self.unbroken();
+        self.first(&Wanted::Foreign { unbroken })
     }
 
     // Whether the root is deleted and not expired, or expired and the greatest.
@@ -124,10 +126,12 @@ impl Catalog {
         }
     }
 
-    pub(crate) fn breaks(&self, kind: &KeyKind) -> bool
+    /// Whether the key breaks a rule. So many roots are there one after another, from 1 on.
+    pub(crate) fn breaks(&self, unbroken: u32, kind: &KeyKind) -> bool
+        requires { IsUnbroken self.now.view unbroken }
         ensures { IsTrue result ↔ Breaks self.now.view kind.now }
     {
-        self.lacks_root(kind)
+        lacks_root(unbroken, kind)
             || self.is_out_of_order(kind)
             || self.differs_from_first(kind)
             || self.lacks_chunk(kind)

@@ -2,7 +2,7 @@
 ghost use Rattle.std.specs.Prelude.{◌≡◌, ◌<◌, ◌≤◌, ◌↔◌, ℕ, IsTrue, MatchOption, Some, None, All};
 ghost use Rattle.lr_origin.specs.declared.key.KeyKind.TheVariants as kind;
 ghost use Rattle.lr_roots.specs.View.{Has, Lacks};
-ghost use Rattle.lr_roots.specs.Foreign.{IsFirstRoot};
+ghost use Rattle.lr_roots.specs.Foreign.{IsFirstRoot, IsUnbroken};
 ghost use Rattle.lr_roots.specs.Index.{IsLastRoot};
 ghost use Rattle.lr_roots.specs.Roots.{IsLive, IsTop, IsRootState, IsHome, IsHomeless, IsMissing};
 
@@ -96,17 +96,18 @@ impl Catalog {
         None
     }
 
-    // The least root from 1 to this one that isn't there.
-    pub(crate) fn gap(&self, last: u32) -> Option<u32>
-        ensures { MatchOption result ((q : ℕ) → 1 ≤ q → q ≤ last → Has self.now.view (kind.Root q)) (λ q. (1 ≤ q) × (q ≤ last) × Lacks self.now.view (kind.Root q)) }
+    // How many roots are there one after another, from 1 on.
+    pub(crate) fn unbroken(&self) -> u32
+        ensures { IsUnbroken self.now.view result }
     {
-        for step in 0..last {
-            let root = step + 1;
-            if !self.has_kind(KeyKind::Root(root)) {
-                return Some(root);
+        // No root is above the limit.
+        let _aside = &self.aside;
+        for root in 0..ROOTS_MAX {
+            if !self.has_kind(KeyKind::Root(root + 1)) {
+                return root;
             }
         }
-        None
+        ROOTS_MAX
     }
 
     // The least root that has a manifest of the image.

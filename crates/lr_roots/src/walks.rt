@@ -2,7 +2,7 @@
 ghost use Rattle.std.specs.Prelude.{◌↔◌, IsTrue};
 ghost use Rattle.lr_roots.specs.Keys.{key_of};
 ghost use Rattle.lr_roots.specs.Names.{IsFirst, AreMany, IsManifestOf, IsChunkOf, IsPast};
-ghost use Rattle.lr_roots.specs.Walks.{NamesFirst, Passes, IsWanted};
+ghost use Rattle.lr_roots.specs.Walks.{NamesFirst, Suits, Passes, IsWanted};
 
 use crate::catalog::Catalog;
 use lr_origin::{Key, KeyKind};
@@ -10,8 +10,8 @@ use lr_origin::{Key, KeyKind};
 /// What a walk looks for.
 #[derive(Clone, Copy)]
 pub(crate) enum Wanted {
-    /// A key that breaks a rule of a sound store.
-    Foreign,
+    /// A key that breaks a rule of a sound store, in a view with so many roots one after another from 1 on.
+    Foreign { unbroken: u32 },
     /// A chunk or a manifest of the root above a key.
     Listed(u32, Option<Key>),
     /// A manifest in the root.
@@ -66,11 +66,12 @@ impl Catalog {
     }
 
     fn passes(&self, wanted: &Wanted, key: &Key) -> bool
+        requires { Suits self.now.view wanted.now }
         ensures { IsTrue result ↔ Passes self.now.view wanted.now key.now }
     {
         let kind = key.kind();
         match wanted {
-            Wanted::Foreign => self.breaks(&kind),
+            Wanted::Foreign { unbroken } => self.breaks(*unbroken, &kind),
             Wanted::Listed(root, after) => {
                 (is_manifest_of(&kind, *root) || is_chunk_of(&kind, *root)) && is_past(key, after)
             }
@@ -82,6 +83,7 @@ impl Catalog {
 
     // Whether the key is in the view and looked for.
     fn is_wanted(&self, wanted: &Wanted, key: &Key) -> bool
+        requires { Suits self.now.view wanted.now }
         ensures { IsTrue result ↔ IsWanted self.now.view wanted.now key.now }
     {
         self.has(key) && self.passes(wanted, key)
@@ -89,6 +91,7 @@ impl Catalog {
 
     /// The first key that is looked for.
     pub(crate) fn first(&self, wanted: &Wanted) -> Option<&Key>
+        requires { Suits self.now.view wanted.now }
         ensures { IsFirst (IsWanted self.now.view wanted.now) (key_of result) }
     {
         // Each key of the view is one of the keys.
@@ -103,6 +106,7 @@ impl Catalog {
 
     /// How many keys are looked for.
     pub(crate) fn count(&self, wanted: &Wanted) -> u64
+        requires { Suits self.now.view wanted.now }
         ensures { AreMany (IsWanted self.now.view wanted.now) result }
     {
         // Each key of the view is one of the keys.
