@@ -1,6 +1,9 @@
 mod Acting
 mod Desking
+mod Commanding
 mod Giving
+mod Kept
+mod ReadBack
 mod Headlines
 mod Meeting
 mod OneWord

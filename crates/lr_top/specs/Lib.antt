@@ -5,3 +5,4 @@ pub mod Top
 pub mod Played
 pub mod Acts
 pub mod Gives
+pub mod Again

@@ -2,11 +2,14 @@
 ghost use Rattle.std.specs.Prelude.{◌≡◌, ◌≢◌, ◌≤◌, ◌↔◌, [], ◌∷◌, IsTrue, false, map, codes, string_bytes};
 ghost use Rattle.lr_desk.specs.Words.{AreOfCreation};
 ghost use Rattle.lr_top.specs.Top.{IfRun};
+ghost use Rattle.lr_stop.specs.Stops.{KeepsSound};
 ghost use Rattle.lr_top.specs.Gives.{streams, Plays, Commands};
+ghost use Rattle.lr_top.specs.Again.{ReadsAgain};
 ghost use Rattle.lr_top.specs.declared.outcome.RunRecord.TheVariants as record_of;
 
 use crate::outcome::{Outcome, RunRecord};
 use crate::playing::play;
+use crate::stops::{commands_read_again, sound_stores_are_kept};
 use lr_depot::DepotLog;
 use lr_desk::{Done, commands};
 use lr_io::{Sink, Source};
@@ -46,10 +49,16 @@ pub fn desk<O: Origin, I: Source, W: Sink>(
     origin: O,
 ) -> Outcome<O>
     ensures commands { Commands O.objects O.faults origin result.origin (streams I.left I.faults W.written W.faults source.old source.new sink.old sink.new) (map string_bytes words.now) result.run result.status result.line }
+    // A sound store stays sound, whichever of its calls fail and with or without their effect, and what read back over it reads back over what is left.
+    ensures kept { KeepsSound (O.objects origin) (O.objects result.origin) }
+    // So does `cat` of an image that the store has, where nothing fails.
+    ensures read { ReadsAgain (O.objects origin) (O.faults origin) (O.faults result.origin) (streams I.left I.faults W.written W.faults source.old source.new sink.old sink.new) (map string_bytes words.now) result.status }
     ensures never_falls { O.faults origin ≤ O.faults result.origin }
     // Only `create` reads the source.
     ensures unread { ¬ (AreOfCreation (map string_bytes words.now)) → source.new ≡ source.old }
 {
+    sound_stores_are_kept::<O>();
+    commands_read_again::<O>();
     let done = commands(alloc, words, source, sink, origin);
     let Done {
         status,
@@ -87,8 +96,13 @@ pub fn top<O: Origin, I: Source, W: Sink>(
     ensures unread { map string_bytes words.now ≢ codes "play" ∷ [] → ¬ (AreOfCreation (map string_bytes words.now)) → source.new ≡ source.old }
     // Only a play hands back a run.
     ensures run { IfRun result.run (λ run. map string_bytes words.now ≡ codes "play" ∷ []) }
+    // A sound store stays sound, whichever of its calls fail and with or without their effect, and what read back over it reads back over what is left.
+    ensures kept { KeepsSound (O.objects origin) (O.objects result.origin) }
+    // So does `cat` of an image that the store has, where nothing fails.
+    ensures read { ReadsAgain (O.objects origin) (O.faults origin) (O.faults result.origin) (streams I.left I.faults W.written W.faults source.old source.new sink.old sink.new) (map string_bytes words.now) result.status }
     ensures never_falls { O.faults origin ≤ O.faults result.origin }
 {
+    sound_stores_are_kept::<O>();
     if is_play(words) {
         return play(alloc, source, sink, origin);
     }
