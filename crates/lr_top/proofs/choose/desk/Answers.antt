@@ -29,3 +29,9 @@ returns-clause-commands g c =
       why = run_or d.result.started c.recorded-run.result d.result.log _ c.recorded-run.ensures.started c.recorded-run.ensures.nothing d.ensures.why;
       kept = run_or d.result.started c.recorded-run.result d.result.log _ c.recorded-run.ensures.started c.recorded-run.ensures.nothing (λ e. (d.ensures.unstarted e).1);
     }
+
+pub returns-clause-kept : goal.returns-clause-kept
+returns-clause-kept g c = c.sound_stores_are_kept.ensures.commands _ _ _ _ _ _ _ (returns-clause-commands g c)
+
+pub returns-clause-read : goal.returns-clause-read
+returns-clause-read g c = c.commands_read_again.ensures _ _ _ _ _ _ _ (returns-clause-commands g c)

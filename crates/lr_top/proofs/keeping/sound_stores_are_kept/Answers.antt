@@ -1,5 +1,5 @@
 use Rattle.lr_top.proofs.Kept.{plays_keep, commands_keep}
-use Rattle.lr_top.proofs.stops.sound_stores_are_kept.Goals as goal
+use Rattle.lr_top.proofs.keeping.sound_stores_are_kept.Goals as goal
 
 pub returns : goal.returns
 returns g c = record {
