@@ -59,6 +59,11 @@ one_cat (Delete r) image tenant a b e = absurd (let f : codes "cat" ≡ codes "d
 one_cat (Sweep r) image tenant a b e = absurd (let f : codes "cat" ≡ codes "sweep" = ap first_word e in cc)
 one_cat Roots image tenant a b e = absurd (let f : codes "cat" ≡ codes "roots" = ap first_word e in cc)
 
+-- the word of a play is none of a reading
+pub play_no_cat : (words : List (List ℕ)) (image tenant : List ℕ) → words ≡ codes "play" ∷ [] → words ≡ words_of (Cat image tenant) → ⊥
+unfolding first_word
+play_no_cat words image tenant play cat = let f : codes "play" ≡ codes "cat" = ap first_word (sym play ∙ cat) in cc
+
 -- an outcome is told by its status
 complete_by : (x y : Outcome) → status_of x ≡ status_of y → IsComplete x → IsComplete y
 complete_by Done Done e c = tt
