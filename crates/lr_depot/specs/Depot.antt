@@ -106,6 +106,7 @@ KeepsStore start log n =
 pub record IsStarted {O : Type 0} (objects : O → Option Objects) (faults : O → ℕ) (origin : O) (d : Seen O) : Type 0 where
   pub log : d.log ≡ []
   pub told : d.start.objects ≡ objects origin
+  pub stays : objects d.origin ≡ objects origin
   pub failed : d.start.faults ≡ faults origin
   pub start : IsStart d.start
   pub few : Told (objects origin) (λ m. HasFewer m (2 ^ 32))

@@ -1,11 +1,13 @@
 //! The depot as an object with a log.
-ghost use Rattle.std.specs.Prelude.{◌≡◌, ◌≤◌, ◌<◌, ◌+◌, ◌^◌, ℕ, Option, IsSome, IsTrue, IfOk, IfErr, false, vec_len, vec_capacity};
+ghost use Rattle.std.specs.Prelude.{◌≡◌, ◌≤◌, ◌<◌, ◌+◌, ◌^◌, ℕ, Option, IsSome, IsTrue, IfOk, IfErr, Some, false, vec_len, vec_capacity};
 ghost use Rattle.lr_opening.specs.Cause.{IsCause};
 ghost use Rattle.lr_depot.specs.declared.call.DepotReply.{DepotReply as Reply};
 ghost use Rattle.lr_depot.specs.Kernel.{places};
 ghost use Rattle.lr_depot.specs.Begun.{Start};
 ghost use Rattle.lr_depot.specs.Machine.{LogEntry, DepotStep};
-ghost use Rattle.lr_depot.specs.Depot.{IsWhole, HasPlace, Did, grown, state};
+ghost use Rattle.lr_depot.specs.Depot.{IsWhole, HasPlace, Did, KeepsStore, grown, state};
+ghost use Rattle.lr_spec.specs.Told.{Told};
+ghost use Rattle.lr_origin.specs.Objects.{Objects};
 
 use crate::call::{DepotCall, DepotNoted, DepotReply, DepotTold};
 use crate::doubts::keep_puts;
@@ -181,10 +183,12 @@ impl<O: Origin> Depot<O> {
         })
     }
 
-    /// The view after the calls so far: it is sound, and every owed image has a home that is active or retired.
+    /// The view after the calls so far: it is sound, and every owed image has a home that is active or retired. So it is of
+    /// the store's objects, where the store tells them.
     pub fn catalog(&self) -> &Catalog
         ensures view { result.now.view ≡ (state self.now.start self.now.log).known.view }
         ensures kept { HasParts (state self.now.start self.now.log) }
+        ensures stored { Told self.now.start.objects (λ m. (n : Objects) × (O.objects self.now.origin ≡ Some n) × KeepsStore self.now.start self.now.log n) }
     {
         &self.body.kernel.catalog
     }

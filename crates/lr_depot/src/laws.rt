@@ -21,7 +21,7 @@ ghost use Rattle.lr_depot.specs.declared.call.DepotCall.{DepotCall as Call};
 ghost use Rattle.lr_depot.specs.declared.call.DepotReply.TheVariants.{Spoiled};
 ghost use Rattle.lr_depot.specs.Begun.{Start};
 ghost use Rattle.lr_depot.specs.Machine.{LogEntry, DepotStep};
-ghost use Rattle.lr_depot.specs.Store.{StoreStep, IsRun};
+ghost use Rattle.lr_depot.specs.Store.{StoreStep, IsRun, LeadsTo};
 ghost use Rattle.lr_depot.specs.Owed.{IsOwed};
 ghost use Rattle.lr_depot.specs.Drawn.{number_told};
 ghost use Rattle.lr_depot.specs.Depot.{IsStart, LedTo, KeepsStore, first_state, state};
@@ -39,6 +39,11 @@ pub fn store_stays_sound()
     ensures sound { (start : Start) (m n : Objects) (log : List LogEntry) → LedTo start m log n → HasChunks m → IsSoundStore n }
     ensures kept { (start : Start) (m n : Objects) (log : List LogEntry) → LedTo start m log n → KeepsStore start log n }
     ensures unspoiled { (start : Start) (m n : Objects) (log : List LogEntry) → LedTo start m log n → HasChunks m → (c : ℕ) (call : Call) (k : Kind) (o : Option Objects) → DepotStep (state start log) c call (Spoiled k) → StoreStep (state start log) c call (Spoiled k) n o → ⊥ }
+{}
+
+/// A log can be cut anywhere: its front leads to objects that keep what is promised, and the rest leads on from these.
+pub fn logs_can_be_cut()
+    ensures { (start : Start) (m n : Objects) (front rest : List LogEntry) → LedTo start m (front ++ rest) n → (k : Objects) × LedTo start m front k × LeadsTo (state start front) k rest n × KeepsStore start front k }
 {}
 
 /// Creation numbers are above every one found at the start, and each is above those drawn before it.

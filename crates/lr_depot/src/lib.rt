@@ -32,8 +32,8 @@ mod start;
 pub use call::{DepotCall, DepotNoted, DepotReply, DepotTold};
 pub use depot::{Depot, StartError};
 pub use laws::{
-    calls_keep_the_promise, keys_last, leases_last, numbers_are_drawn_once, sessions_last,
-    store_stays_sound,
+    calls_keep_the_promise, keys_last, leases_last, logs_can_be_cut, numbers_are_drawn_once,
+    sessions_last, store_stays_sound,
 };
 pub use log::DepotLog;
 pub use lr_opening::StartCause;

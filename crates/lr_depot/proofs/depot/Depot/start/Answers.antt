@@ -32,6 +32,7 @@ returns-clause-started g c =
     record {
       log = c.new-5.ensures.items;
       told = ap g.O.Origin.objects c.of-opening.ensures;
+      stays = c.open.ensures.same;
       failed = ap g.O.Origin.faults c.of-opening.ensures;
       start = is_start _ c.in-Ok.catalog.view c.greatest_number.result found c.of-number.ensures c.in-Ok.ensures.sound c.in-Ok.ensures.names c.greatest_number.ensures
           (λ m told. (c.in-Ok.ensures.whole m (ap g.O.Origin.objects (sym c.of-opening.ensures) ∙ told)).0);
