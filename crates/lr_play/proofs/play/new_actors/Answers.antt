@@ -17,7 +17,7 @@ cast_of-requires-clause-given g c =
     let f = fresh c.args.script.now c.requires.within c.args.parts.now c.args.context c.requires.started c.leases_are_out.ensures c.requires.prepared.0 c.requires.prepared.1 in
     c.jobs_may_be_given.ensures c.args.script.now (seen_context c.args.context) c.args.context.hosts c.requires.within f.many
 
-pub returns-in-Ok : goal.returns-in-Ok
-returns-in-Ok g c =
+pub returns : goal.returns
+returns g c =
     let f = fresh c.args.script.now c.requires.within c.args.parts.now c.args.context c.requires.started c.leases_are_out.ensures c.requires.prepared.0 c.requires.prepared.1 in
     (seen_context c.args.context, c.args.context.hosts, first_begins c.args.script.now c.requires.within (seen_context c.args.context) c.args.context.hosts (seen_of c.args.parts.now c.in-Ok.cast.actors) f c.in-Ok.ensures.actors)
