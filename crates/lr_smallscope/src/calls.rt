@@ -16,13 +16,22 @@ pub const NAME: [u8; 32] = [
     0x15, 0x21, 0x2f, 0xc0, 0x6c, 0xdb, 0x40, 0x89, 0x96, 0xd3, 0x2e, 0xeb, 0x2c, 0xef, 0x9e, 0xbb,
 ];
 
-// A manifest up to its raw length.
-const HEAD: [u8; 8] = [0x4c, 0x52, 0x4d, 0x46, 0, 1, 0, 0];
+// A manifest up to its root, of a raw length of 5,000 bytes in the one chunk.
+const ONE_CHUNK: [u8; 56] = [
+    0x4c, 0x52, 0x4d, 0x46, 0, 1, 0, 0, 0, 0, 0, 0, 0, 0, 0x13, 0x88, 0, 8, 0, 0, 0, 0, 0, 1, 0x33,
+    0xa1, 0x50, 0xbc, 0xeb, 0x13, 0xc1, 0xa9, 0x92, 0x23, 0x1e, 0x65, 0xb4, 0xfa, 0xd1, 0x68, 0x15,
+    0x21, 0x2f, 0xc0, 0x6c, 0xdb, 0x40, 0x89, 0x96, 0xd3, 0x2e, 0xeb, 0x2c, 0xef, 0x9e, 0xbb,
+];
 
-// A raw length of 5,000 bytes, the size of a chunk, and one chunk.
-const ONE_CHUNK: [u8; 16] = [0, 0, 0, 0, 0, 0, 0x13, 0x88, 0, 8, 0, 0, 0, 0, 0, 1];
+// .. and of no bytes.
+const NO_CHUNK: [u8; 24] = [
+    0x4c, 0x52, 0x4d, 0x46, 0, 1, 0, 0, 0, 0, 0, 0, 0, 0, 0, 0, 0, 8, 0, 0, 0, 0, 0, 0,
+];
 
-const NO_CHUNK: [u8; 16] = [0, 0, 0, 0, 0, 0, 0, 0, 0, 8, 0, 0, 0, 0, 0, 0];
+// The sealed key of the one chunk.
+const SEALED: [u8; 32] = [9; 32];
+
+const TAG: [u8; 16] = [3; 16];
 
 // A number, or 0 for a word that is none.
 pub fn number(word: &str) -> u64 {
@@ -41,22 +50,35 @@ pub fn key(word: &str) -> Result<Key, Stop> {
     Key::parse(word.as_bytes()).ok_or(Stop::Line)
 }
 
-// The manifest of an image of this many chunks, one or none, made by the creation of this number in this root.
-fn manifest(alloc: Global, chunks: &str, root: u32, number: u64) -> Result<Arc<Manifest>, Stop> {
-    let mut bytes = Vec::from_slice(alloc, &HEAD)?;
-    if chunks == "1" {
-        bytes.extend_from_slice(&ONE_CHUNK)?;
-        bytes.extend_from_slice(&NAME)?;
-    } else {
-        bytes.extend_from_slice(&NO_CHUNK)?;
-    }
+// The bytes of a manifest: its front, root, number, sealed keys and tag.
+fn spelled(
+    alloc: Global,
+    front: &[u8],
+    root: u32,
+    number: u64,
+    sealed: &[u8],
+) -> Result<Vec<u8>, Stop> {
+    let mut bytes = Vec::from_slice(alloc, front)?;
     bytes.extend_from_slice(&root.to_be_bytes())?;
     bytes.extend_from_slice(&number.to_be_bytes())?;
+    bytes.extend_from_slice(sealed)?;
+    bytes.extend_from_slice(&TAG)?;
+    Ok(bytes)
+}
+
+fn parsed(alloc: Global, bytes: &[u8]) -> Result<Arc<Manifest>, Stop> {
+    let manifest = Manifest::parse(alloc, bytes)?;
+    Ok(Arc::new(alloc, manifest)?)
+}
+
+// The manifest of an image of this many chunks, one or none, made by the creation of this number in this root.
+fn manifest(alloc: Global, chunks: &str, root: u32, number: u64) -> Result<Arc<Manifest>, Stop> {
     if chunks == "1" {
-        bytes.extend_from_slice(&[9u8; 32])?;
+        let bytes = spelled(alloc, &ONE_CHUNK, root, number, &SEALED)?;
+        return parsed(alloc, &bytes);
     }
-    bytes.extend_from_slice(&[3u8; 16])?;
-    Ok(Arc::new(alloc, Manifest::parse(alloc, &bytes)?)?)
+    let bytes = spelled(alloc, &NO_CHUNK, root, number, b"")?;
+    parsed(alloc, &bytes)
 }
 
 // A call that names an image.
