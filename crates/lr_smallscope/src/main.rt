@@ -1,45 +1,110 @@
-//! The program `lr_smallscope`: runs of a depot over a store in memory that fails at one of its calls, by a script on standard input.
+//! The program `lr_smallscope`: every sequence of up to five calls on a depot over three roots and two images.
 //!
-//! A line of the script is `key KEY`, a key that the end of each run tells of; `run AT DONE`, which starts a depot over an empty store
-//! whose call AT fails, counted from 1 over all calls, with its effect where DONE is 1; `CALLER CALL`, a call of the depot; `choose`,
-//! after which calls are made up to the first that isn't refused; `end` and `end-whole`, which tell what the depot leaves, and the second
-//! whether each long body is of one byte, and what a depot sees that is started on the store again. Each call is answered by a line.
+//! From each of some starts it makes all sequences of up to five calls by two callers, or four from the start with the most states. One store
+//! call of a sequence may fail, with and without effect. After each call it judges the view and the store by rules of its own, counts
+//! the store calls, of which there is one at most, and starts a depot on the store again. A sequence that comes to a state seen before
+//! isn't made longer, and calls that are refused are made one after another in one run. For each start it prints how many states and how
+//! many different stores it saw, and how many runs it made.
 //!
-//! `tests/smallscope` makes every short sequence of calls of a small scope with it, and judges each answer by rules of its own.
-//!
-//! `calls` has the calls in words, `replies` their replies, `store` the store, `run` a run.
+//! `keys` has the keys of the scope, `rules` what must hold of a set of them, `store` the store, `images` the images,
+//! `moves` the calls, `record` what their replies tell, `run` one sequence, `search` all of them.
 #![tactic(auto)]
 
-mod calls;
-mod replies;
+mod error;
+mod images;
+mod keys;
+mod moves;
+mod record;
+mod rules;
 mod run;
-mod stop;
+mod search;
 mod store;
 
-use run::Play;
-use std::io::{self, BufRead, BufReader, BufWriter, Write};
+use error::ScopeError;
+use images::{Image, Scope};
+use moves::{Ask, Move};
+use search::explore;
 use std::process::ExitCode;
-use stop::Stop;
 
-fn play(rt: &HostRuntime) -> Result<(), Stop> {
-    let alloc = rt.alloc();
-    let mut play = Play::new(alloc)?;
-    let mut writer = BufWriter::new(alloc, io::writer(rt))?;
-    for line in BufReader::new(alloc, rt.reader())?.lines(alloc) {
-        let line = line?;
-        let mut out = Vec::new(alloc);
-        play.line(alloc, line.as_str(), &mut out)?;
-        writer.write_all(&out)?;
+const EMPTY: &[Move] = &[];
+
+// Image A is in root 1, and root 2 is active.
+const ROTATED: &[Move] = &[
+    (1, Ask::Rotate),
+    (1, Ask::Begin(Image::A)),
+    (1, Ask::Chunk(0)),
+    (1, Ask::Manifest(0)),
+    (1, Ask::Rotate),
+];
+
+// Image A is leased and withdrawn in root 1, and a creation of B puts into it; root 2 is active.
+const LEASED: &[Move] = &[
+    (1, Ask::Rotate),
+    (1, Ask::Begin(Image::A)),
+    (1, Ask::Chunk(0)),
+    (1, Ask::Manifest(0)),
+    (2, Ask::Open(Image::A)),
+    (1, Ask::Withdraw(Image::A)),
+    (2, Ask::Begin(Image::B)),
+    (1, Ask::Rotate),
+];
+
+// Image A was moved from root 1 to root 2.
+const MOVED: &[Move] = &[
+    (1, Ask::Rotate),
+    (1, Ask::Begin(Image::A)),
+    (1, Ask::Chunk(0)),
+    (1, Ask::Manifest(0)),
+    (1, Ask::Rotate),
+    (1, Ask::Migrate(Image::A)),
+    (1, Ask::Chunk(0)),
+    (1, Ask::Finish(0)),
+];
+
+// The starts, and how many calls are made after each.
+const STARTS: &[(&str, &[Move], u32)] = &[
+    ("empty", EMPTY, 5),
+    ("rotated", ROTATED, 4),
+    ("leased", LEASED, 5),
+    ("moved", MOVED, 5),
+];
+
+// Whether all sequences from a start keep the rules. Prints what it saw.
+fn search_from(
+    rt: &HostRuntime,
+    name: &str,
+    start: &[Move],
+    depth: u32,
+) -> Result<bool, ScopeError> {
+    let scope = Scope::make(rt.alloc())?;
+    let found = explore(rt.alloc(), &scope, start, depth)?;
+    let Some(broken) = found.broken else {
+        println!(rt;
+            "{name} states {} stores {} runs {}",
+            found.states, found.stores, found.runs
+        )?;
+        return Ok(true);
+    };
+    println!(rt; "{name}: {broken:?} after {:?}", found.path)?;
+    Ok(false)
+}
+
+fn search_all(rt: &HostRuntime) -> Result<bool, ScopeError> {
+    for start in STARTS.iter() {
+        if !search_from(rt, start.0, start.1, start.2)? {
+            return Ok(false);
+        }
     }
-    writer.flush()?;
-    Ok(())
+    Ok(true)
 }
 
 fn main(rt: HostRuntime) -> ExitCode {
-    match play(&rt) {
-        Ok(()) => ExitCode::SUCCESS,
-        Err(Stop::Line) => ExitCode::from(3),
-        Err(Stop::System) => ExitCode::from(2),
-        Err(Stop::OutOfMemory) => ExitCode::from(7),
+    match search_all(&rt) {
+        Ok(true) => ExitCode::SUCCESS,
+        Ok(false) => ExitCode::from(1),
+        Err(error) => {
+            let _ = eprintln!(rt; "lr_smallscope: {error}");
+            ExitCode::from(2)
+        }
     }
 }

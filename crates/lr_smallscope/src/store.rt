@@ -1,7 +1,8 @@
-//! A store in memory that fails at one of its calls, counted over all of them.
+//! The store of the scope, which fails at one of its calls, counted over all of them.
 ghost use Rattle.std.specs.Prelude.{◌≡◌, ◌≤◌};
 ghost use Rattle.lr_spec.specs.Rose.{Rose};
 
+use lr_manifest::CHUNK;
 use lr_origin::{Origin, OriginError, OriginFailed, Put};
 use std::alloc::{AllocError, Global};
 use std::collections::BTreeMap;
@@ -13,13 +14,33 @@ pub struct Failure {
     pub done: bool,
 }
 
-/// Bodies under keys. It tells no objects.
+/// Bodies under keys. Of the scope's chunk it keeps the first byte alone. It tells no objects.
 #[derive(Drop)]
 pub struct ScopeStore {
-    pub bodies: BTreeMap<Vec<u8>, Vec<u8>>,
-    pub calls: u64,
+    bodies: BTreeMap<Vec<u8>, Vec<u8>>,
+    calls: u64,
     failure: Failure,
     faults: u64,
+}
+
+// Whether all bytes are 1.
+fn is_filled(body: &[u8]) -> bool {
+    body.iter().fold(0u8, |all, byte| all | (*byte ^ 1)) == 0
+}
+
+// What is kept of a body. No other body has one byte.
+fn kept(alloc: Global, body: &[u8]) -> Result<Vec<u8>, AllocError> {
+    if body.len() == CHUNK && is_filled(body) {
+        return vec![in alloc; 1u8; 1];
+    }
+    body.to_vec(alloc)
+}
+
+fn whole(alloc: Global, kept: &Vec<u8>) -> Result<Vec<u8>, AllocError> {
+    if kept.len() == 1 {
+        return vec![in alloc; 1u8; CHUNK];
+    }
+    kept.to_vec(alloc)
 }
 
 impl ScopeStore {
@@ -32,12 +53,37 @@ impl ScopeStore {
         }
     }
 
+    /// How many calls were made.
+    pub fn calls(&self) -> u64 {
+        self.calls
+    }
+
+    /// How many objects there are.
+    pub fn len(&self) -> usize {
+        self.bodies.len()
+    }
+
+    /// What is kept of the body under a key: of the scope's chunk one byte.
+    pub fn kept(&self, key: &[u8]) -> Option<&Vec<u8>> {
+        self.bodies.get(key)
+    }
+
     /// The store, which fails no more.
     pub fn mended(self) -> ScopeStore {
         ScopeStore {
             failure: Failure { at: 0, done: false },
             ..self
         }
+    }
+
+    /// What is kept of all bodies, each after its key.
+    pub fn contents(&self, alloc: Global) -> Result<Vec<u8>, AllocError> {
+        let mut contents = Vec::new(alloc);
+        for (key, body) in self.bodies.iter() {
+            contents.extend_from_slice(key)?;
+            contents.extend_from_slice(body)?;
+        }
+        Ok(contents)
     }
 
     // Counts a call. Whether it is the one that fails.
@@ -62,7 +108,7 @@ impl ScopeStore {
             return Ok(Put::Present);
         }
         let key = key.to_vec(alloc)?;
-        let body = body.to_vec(alloc)?;
+        let body = kept(alloc, body)?;
         self.bodies.insert(key, body)?;
         Ok(Put::Stored)
     }
@@ -81,7 +127,7 @@ impl Origin for ScopeStore {
             return Err(OriginError::Failed);
         }
         match self.bodies.get(key) {
-            Some(body) => Ok(Some(body.to_vec(alloc)?)),
+            Some(body) => Ok(Some(whole(alloc, body)?)),
             None => Ok(None),
         }
     }
