@@ -1,1 +1,2 @@
 pub mod Wholes
+mod Unspoiled

@@ -29,6 +29,7 @@ use Rattle.lr_history.specs.Lists.{own, context_of, device_log, cache_log, node_
 use Rattle.lr_history.specs.Lists as history
 use Rattle.lr_history.specs.Premises.{IsRun, AreCallers, AreDeviceLogs, AreCacheLogs}
 use Rattle.lr_history.specs.Premises as premises
+use Rattle.lr_history.specs.Claims.{HaveOwnLeases, AreApart}
 use Rattle.lr_setup.specs.Setup.{devices_of}
 use Rattle.lr_setup.specs.Whole.{IsWhole}
 use Rattle.lr_actors.specs.Jobs.{Job}
@@ -52,13 +53,13 @@ map_get f [] (suc i) x e = absurd (cc)
 map_get f (y ∷ xs) zero x e = let s : y ≡ x = cc in rw s refl
 map_get f (y ∷ xs) (suc i) x e = map_get f xs i x e
 
-all_get : {X : Type 0} (P : X → Type 0) (xs : List X) (i : ℕ) (x : X) → AllByRecursion P xs → slice_get xs i ≡ Some x → P x
+pub all_get : {X : Type 0} (P : X → Type 0) (xs : List X) (i : ℕ) (x : X) → AllByRecursion P xs → slice_get xs i ≡ Some x → P x
 all_get P [] zero x h e = absurd (cc)
 all_get P [] (suc i) x h e = absurd (cc)
 all_get P (y ∷ xs) zero x h e = let s : y ≡ x = cc in subst P s h.0
 all_get P (y ∷ xs) (suc i) x h e = all_get P xs i x h.1 e
 
-all_by : {X : Type 0} (P Q : X → Type 0) → ((x : X) → P x → Q x) → (xs : List X) → AllByRecursion P xs → AllByRecursion Q xs
+pub all_by : {X : Type 0} (P Q : X → Type 0) → ((x : X) → P x → Q x) → (xs : List X) → AllByRecursion P xs → AllByRecursion Q xs
 all_by P Q f [] h = tt
 all_by P Q f (x ∷ xs) h = (f x h.0, all_by P Q f xs h.1)
 
@@ -208,3 +209,6 @@ is_whole seen c opening closing k led chunks = record {
   logs = device_logs c opening closing k;
   trails = is_run seen c opening closing k;
 }
+
+pub are_apart : (c : Closing) (opening closing : Store) → IsClosing c → AreApart (run_of c opening closing)
+are_apart c opening closing k = record { numbers = k.numbers; leases = subst HaveOwnLeases (sym (context_same c opening closing k)) k.leases }

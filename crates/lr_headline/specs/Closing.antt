@@ -17,6 +17,8 @@ use Rattle.lr_depot.specs.Machine.{LogEntry}
 use Rattle.lr_walk.specs.declared.trail.JobResult.{JobResult}
 use Rattle.lr_walk.specs.Calls.{DevicePlace}
 use Rattle.lr_walk.specs.Jobs.{Context}
+use Rattle.lr_history.specs.Histories.{HaveOwnNumbers}
+use Rattle.lr_history.specs.Claims.{HaveOwnLeases}
 use Rattle.lr_history.specs.Run.{Creation, DeviceLine, DeviceSeen, CacheSeen, ActorSeen, Run}
 use Rattle.lr_setup.specs.Setup.{SetupLine, images_of, devices_of, IsSetup}
 use Rattle.lr_actors.specs.Jobs.{Job}
@@ -56,6 +58,9 @@ numbers_of actors = map (λ (a : Left). a.number) actors
 abbrev pub AreOf : {N T : Type 0} → List Left → List (Sized N T) → Type 0
 AreOf {N} {T} actors objects = AllByRecursion (λ (s : Sized N T). AllByRecursion (λ (e : Entry N T). Contains (numbers_of actors) e.caller) s.log) objects
 
+abbrev pub actor_seen : Left → ActorSeen
+actor_seen a = record { number = a.number; jobs = map seen_job a.jobs; results = a.results }
+
 -- The log of the depot begins with the setup's, which opened the devices; each object's log is one that calls made of a new one, those
 -- of devices and caches by the actors; and each actor has its trail over its own lists.
 pub record IsClosing (c : Closing) : Type 0 where
@@ -67,6 +72,9 @@ pub record IsClosing (c : Closing) : Type 0 where
   pub caches : AreOf c.actors c.objects.caches
   pub given : AllByRecursion (λ (a : Left). AllByRecursion (MayBeGiven c.context c.hosts) a.jobs) c.actors
   pub trails : AllByRecursion (λ (a : Left). HasTrail c.context (own_lists c.objects a.number) a.jobs a.results) c.actors
+  -- no two actors have one number, and no two devices one lease
+  pub numbers : HaveOwnNumbers (map actor_seen c.actors)
+  pub leases : HaveOwnLeases c.context
 
 -- ---- as its history sees it
 
@@ -75,9 +83,6 @@ cache_seen c = record { capacity = c.capacity; log = c.log }
 
 abbrev pub node_log : Sized NodeCall NodeReply → List node.LogEntry
 node_log s = s.log
-
-abbrev pub actor_seen : Left → ActorSeen
-actor_seen a = record { number = a.number; jobs = map seen_job a.jobs; results = a.results }
 
 -- each device line with the log of its device
 abbrev pub devices_seen : List DeviceLine → List (Sized DeviceNoted DeviceAnswer) → List DeviceSeen

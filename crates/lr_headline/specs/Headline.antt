@@ -1,11 +1,13 @@
 -- What follows of a run from what it left.
-use Rattle.std.specs.Prelude.{◌≤◌, ◌+◌, ℕ, List}
+use Rattle.std.specs.Prelude.{◌≢◌, ◌≤◌, ◌+◌, ℕ, List}
 use Rattle.std.specs.List.{AllByRecursion, AllZip}
 use Rattle.std.specs.FinMap as map
 use Rattle.lr_origin.specs.Objects.{Objects as Store}
+use Rattle.lr_origin.specs.declared.key.KeyKind.{KeyKind}
 use Rattle.lr_object.specs.declared.id.ObjectId.TheVariants.{Depot}
 use Rattle.lr_cache.specs.Machine.{LogEntry as CacheEntry, empty}
 use Rattle.lr_claims.specs.Leads.{givens}
+use Rattle.lr_walk.specs.declared.trail.Answer.TheVariants.{Spoiled}
 use Rattle.lr_walk.specs.declared.trail.JobResult.{JobResult}
 use Rattle.lr_seal.specs.Made.{HaveDistinctDigests}
 use Rattle.lr_history.specs.Jobs.{JobSeen}
@@ -14,13 +16,13 @@ use Rattle.lr_history.specs.Strings.{strings_of}
 use Rattle.lr_history.specs.Lists.{own, context_of}
 use Rattle.lr_history.specs.Told.{fetched_in}
 use Rattle.lr_history.specs.OnDemand.{IsOnDemand, IsDemandedFetch}
-use Rattle.lr_history.specs.Claims.{fetches_for, HasRoom, IsNoEvict, NobodyCrashed, AreApart}
+use Rattle.lr_history.specs.Claims.{fetches_for, HasRoom, IsNoEvict, NobodyCrashed}
 use Rattle.lr_history.specs.Histories.{AreLegalWhereAgreed, PiecesWereLoaded, CommitsArePlanned, CallsAreAnsweredOnce, JobsAreAnswered, OwnListsFollowJobs, total}
 use Rattle.lr_opening.specs.Store.{HasChunks}
 use Rattle.lr_depot.specs.Depot.{LedTo}
 use Rattle.lr_history.specs.Premises.{IsRun, AreDeviceLogs, AreCacheLogs}
 use Rattle.lr_setup.specs.Whole.{IsWhole, Serves}
-use Rattle.lr_headline.specs.Closing.{Closing, IsClosing, run_of}
+use Rattle.lr_headline.specs.Closing.{Left, Closing, IsClosing, run_of}
 
 -- A run over a store that leads from the opening objects to the closing ones is whole: each part delivers what its history needs.
 abbrev pub RunsAreWhole : Type 0
@@ -39,6 +41,15 @@ abbrev pub RunsServe : Type 0
 RunsServe =
     (c : Closing) (opening closing : Store) → IsClosing c → LedTo c.objects.start opening c.objects.depot closing → HasChunks opening
     → HaveDistinctDigests (strings_of (run_of c opening closing)) → Serves (run_of c opening closing)
+
+-- no job of an actor ends with a spoiled key
+abbrev pub FindNothingSpoiled : Closing → Type 0
+FindNothingSpoiled c = AllByRecursion (λ (a : Left). AllByRecursion (λ (r : JobResult). (key : KeyKind) → r.answer ≢ Spoiled key) a.results) c.actors
+
+-- .. over a store that was sound, whatever digests tell
+abbrev pub RunsFindNothingSpoiled : Type 0
+RunsFindNothingSpoiled =
+    (c : Closing) (opening closing : Store) → IsClosing c → LedTo c.objects.start opening c.objects.depot closing → HasChunks opening → FindNothingSpoiled c
 
 -- the run, whatever its store holds
 abbrev pub bare : Closing → Run
@@ -73,7 +84,7 @@ pub record Follows (run : Run) : Type 0 where
   pub order : OwnListsFollowJobs run
   pub loads : AreOnDemand run
   pub demanded : AreDemanded run
-  pub claims : AreApart run → FetchOnce run
+  pub claims : FetchOnce run
 
 abbrev pub RunsFollow : Type 0
 RunsFollow = (c : Closing) → IsClosing c → Follows (bare c)

@@ -1,5 +1,5 @@
 //! Laws, as contracts of functions that do nothing.
-ghost use Rattle.lr_headline.specs.Headline.{RunsAreWhole, RunsAreRuns, RunsServe, RunsFollow};
+ghost use Rattle.lr_headline.specs.Headline.{RunsAreWhole, RunsAreRuns, RunsServe, RunsFindNothingSpoiled, RunsFollow};
 
 /// Over a store that tells its objects, a run is whole.
 pub fn runs_are_whole()
@@ -21,6 +21,15 @@ pub fn runs_serve()
 {
     runs_are_whole();
     lr_setup::images_are_served();
+}
+
+/// No job of a run ends with a spoiled key, over a store that told its objects and was sound.
+pub fn runs_find_nothing_spoiled()
+    ensures { RunsFindNothingSpoiled }
+{
+    runs_are_runs();
+    lr_history::calls_are_answered_once();
+    lr_replies::spoiled_jobs_were_told();
 }
 
 /// What holds of a run whatever its store holds: legal histories where bases agree, each call answered once, chunks fetched on demand.

@@ -5,4 +5,4 @@
 
 mod laws;
 
-pub use laws::{runs_are_runs, runs_are_whole, runs_follow, runs_serve};
+pub use laws::{runs_are_runs, runs_are_whole, runs_find_nothing_spoiled, runs_follow, runs_serve};

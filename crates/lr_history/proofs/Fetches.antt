@@ -121,20 +121,20 @@ module _ (run : Run) (host : ℕ) (leases : HaveOwnLeases (context_of run)) (gro
   abbrev pub led_of : Lists → JobResult → List Name
   led_of lists r = led_in host (entries_in lists (Cache host) r.path.items)
 
-  job_few : (x : List ℕ) (lists : Lists) (job : JobSeen) (r : JobResult) → Good run lists job r.path.items
+  job_few : (x : List ℕ) (number : ℕ) (lists : Lists) (job : JobSeen) (r : JobResult) → Good run number lists job r.path.items
       → hits (is_fetch_for (context_of run) host x) (fetched_of lists r) ≤ hits (is_it x) (led_of lists r)
-  job_few x lists another r h = rw h.fetches (omega arith)
-  job_few x lists (calls device call) r (inl h) = rw h.fetches (omega arith)
-  job_few x lists (calls device call) r (inr h) = rw (h.2.fetches, h.2.leads host) (loads_few (context_of run) host x leases device (place_of h.0) (there run device h.0 h.1) h.2.loads h.2.each)
+  job_few x number lists another r h = rw h.fetches (omega arith)
+  job_few x number lists (calls device call) r (inl h) = rw h.fetches (omega arith)
+  job_few x number lists (calls device call) r (inr h) = rw (h.2.fetches, h.2.leads host) (loads_few (context_of run) host x leases device (place_of h.0) (there run device h.0 h.1) h.2.loads h.2.each)
 
-  jobs_few : (x : List ℕ) (lists : Lists) (jobs : List JobSeen) (results : List JobResult) → AllZip (λ (job : JobSeen) (r : JobResult). Good run lists job r.path.items) jobs results
+  jobs_few : (x : List ℕ) (number : ℕ) (lists : Lists) (jobs : List JobSeen) (results : List JobResult) → AllZip (λ (job : JobSeen) (r : JobResult). Good run number lists job r.path.items) jobs results
       → hits (is_fetch_for (context_of run) host x) (flat_map (fetched_of lists) results) ≤ hits (is_it x) (flat_map (led_of lists) results)
-  jobs_few x lists [] [] h = omega arith
-  jobs_few x lists [] (r ∷ results) h = absurd h
-  jobs_few x lists (job ∷ jobs) [] h = absurd h
-  jobs_few x lists (job ∷ jobs) (r ∷ results) h =
-      let now = job_few x lists job r h.0 in
-      let more = jobs_few x lists jobs results h.1 in
+  jobs_few x number lists [] [] h = omega arith
+  jobs_few x number lists [] (r ∷ results) h = absurd h
+  jobs_few x number lists (job ∷ jobs) [] h = absurd h
+  jobs_few x number lists (job ∷ jobs) (r ∷ results) h =
+      let now = job_few x number lists job r h.0 in
+      let more = jobs_few x number lists jobs results h.1 in
       let a = hits-append (is_fetch_for (context_of run) host x) (fetched_of lists r) (flat_map (fetched_of lists) results) in
       let b = hits-append (is_it x) (led_of lists r) (flat_map (led_of lists) results) in
       omega arith
@@ -145,7 +145,7 @@ module _ (run : Run) (host : ℕ) (leases : HaveOwnLeases (context_of run)) (gro
       let lists : Lists = own run a.number in
       let f = list_by_jobs fetched_step Depot fetched_on lists a.results (h.counted Depot) (h.beyond Depot) in
       let l = list_by_jobs (led_step host) (Cache host) (led_on host) lists a.results (h.counted (Cache host)) (h.beyond (Cache host)) in
-      let few = jobs_few x lists a.jobs a.results (trail_good run grown a h) in
+      let few = jobs_few x a.number lists a.jobs a.results (trail_good run grown a h) in
       let a_few = filtered (is_fetch_for (context_of run) host x) (fetched_in (lists Depot)) in
       let f_is : hits (is_fetch_for (context_of run) host x) (fetched_in (lists Depot)) ≡ hits (is_fetch_for (context_of run) host x) (flat_map (fetched_of lists) a.results) = ap (hits (is_fetch_for (context_of run) host x)) f in
       let l_is : hits (is_it x) (led_in host (lists (Cache host))) ≡ hits (is_it x) (flat_map (led_of lists) a.results) = ap (hits (is_it x)) l in
@@ -156,13 +156,13 @@ module _ (run : Run) (host : ℕ) (leases : HaveOwnLeases (context_of run)) (gro
   abbrev IsMetOne : Name → Type 0
   IsMetOne name = IsMetName run host name.bytes
 
-  is_met : (call : DeviceCall) {device index : ℕ} (w : WasDemanded run (need call index) device) → IsMet (size_of w.seen) call index
+  is_met : (call : DeviceCall) {device index caller : ℕ} (w : WasDemanded run (need call index) device caller) → IsMet (size_of w.seen) call index
   is_met call {index = index} w =
       let h = demand_has (size_of w.seen) (made_by (size_of w.seen) w.before).written call index w.demanded in
       record { within = h.0; page = h.1.0; there = h.1.1; low = h.1.2.low; high = h.1.2.high }
 
   loads_met : (a : ActorSeen) (device : ℕ) (call : DeviceCall) (d : DeviceSeen) (loads : List LoadMade) → Contains run.actors a → Contains a.jobs (calls device call) → slice_get run.devices device ≡ Some d
-      → AllByRecursion (IsLoadOf (place_of d)) loads → AllByRecursion (λ (l : LoadMade). WasDemanded run (need call l.index) device) loads → AllByRecursion IsMetOne (flat_map (lead_of host (place_of d)) loads)
+      → AllByRecursion (IsLoadOf (place_of d)) loads → AllByRecursion (λ (l : LoadMade). WasDemanded run (need call l.index) device a.number) loads → AllByRecursion IsMetOne (flat_map (lead_of host (place_of d)) loads)
   loads_met a device call d [] acts c at h w = tt
   loads_met a device call d (l ∷ loads) acts c at h w =
       all_append IsMetOne (lead_of host (place_of d) l) (flat_map (lead_of host (place_of d)) loads) (by l.led (nat_eq d.line.host host) refl) (loads_met a device call d loads acts c at h.1 w.1)
@@ -192,7 +192,7 @@ module _ (run : Run) (host : ℕ) (leases : HaveOwnLeases (context_of run)) (gro
         tt,
       )
 
-  job_met : (a : ActorSeen) → Contains run.actors a → (job : JobSeen) (r : JobResult) → Contains a.jobs job → Good run (own run a.number) job r.path.items → AllByRecursion IsMetOne (led_of (own run a.number) r)
+  job_met : (a : ActorSeen) → Contains run.actors a → (job : JobSeen) (r : JobResult) → Contains a.jobs job → Good run a.number (own run a.number) job r.path.items → AllByRecursion IsMetOne (led_of (own run a.number) r)
   job_met a acts another r c h = subst (λ (l : List Name). AllByRecursion IsMetOne l) (sym (h.leads host)) tt
   job_met a acts (calls device call) r c (inl h) = subst (λ (l : List Name). AllByRecursion IsMetOne l) (sym (h.leads host)) tt
   job_met a acts (calls device call) r c (inr h) =
@@ -203,7 +203,7 @@ module _ (run : Run) (host : ℕ) (leases : HaveOwnLeases (context_of run)) (gro
       let lists : Lists = own run a.number in
       subst (λ (l : List Name). AllByRecursion IsMetOne l)
       (sym (list_by_jobs (led_step host) (Cache host) (led_on host) lists a.results (h.counted (Cache host)) (h.beyond (Cache host))))
-      (zip_all (λ (job : JobSeen) (r : JobResult). Good run lists job r.path.items) IsMetOne (led_of lists) a.jobs a.results (job_met a acts) (trail_good run grown a h))
+      (zip_all (λ (job : JobSeen) (r : JobResult). Good run a.number lists job r.path.items) IsMetOne (led_of lists) a.jobs a.results (job_met a acts) (trail_good run grown a h))
 
 -- ---- a cache's log and its callers' own lists
 

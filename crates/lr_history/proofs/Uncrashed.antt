@@ -92,7 +92,7 @@ loads_call run host a device call d (l ∷ loads) c at =
     by true false e = tt
     by true true e = (record { device = device; seen = d; call = call; at = at; hosted = eqb-true d.line.host host e; called = c }, tt)
 
-job_calls : (run : Run) (host : ℕ) (a : ActorSeen) (job : JobSeen) (r : JobResult) → Contains a.jobs job → Good run (own run a.number) job r.path.items
+job_calls : (run : Run) (host : ℕ) (a : ActorSeen) (job : JobSeen) (r : JobResult) → Contains a.jobs job → Good run a.number (own run a.number) job r.path.items
     → AllByRecursion (λ (n : Name). HasCallsOn run host a) (led_in host (entries_in (own run a.number) (Cache host) r.path.items))
 job_calls run host a another r c h = subst (λ (l : List Name). AllByRecursion (λ (n : Name). HasCallsOn run host a) l) (sym (h.leads host)) tt
 job_calls run host a (calls device call) r c (inl h) = subst (λ (l : List Name). AllByRecursion (λ (n : Name). HasCallsOn run host a) l) (sym (h.leads host)) tt
@@ -105,7 +105,7 @@ actor_calls run host a grown h =
     let lists : Lists = own run a.number in
     subst (λ (l : List Name). AllByRecursion (λ (n : Name). HasCallsOn run host a) l)
     (sym (list_by_jobs (led_step host) (Cache host) (led_on host) lists a.results (h.counted (Cache host)) (h.beyond (Cache host))))
-    (zip_all (λ (job : JobSeen) (r : JobResult). Good run lists job r.path.items) (λ (n : Name). HasCallsOn run host a) (λ (r : JobResult). led_in host (entries_in lists (Cache host) r.path.items)) a.jobs a.results
+    (zip_all (λ (job : JobSeen) (r : JobResult). Good run a.number lists job r.path.items) (λ (n : Name). HasCallsOn run host a) (λ (r : JobResult). led_in host (entries_in lists (Cache host) r.path.items)) a.jobs a.results
     (job_calls run host a) (trail_good run grown a h))
 
 -- ---- entries by their callers

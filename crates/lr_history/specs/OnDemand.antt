@@ -9,13 +9,15 @@ use Rattle.lr_device.specs.Machine.{LogEntry, run as made_by}
 use Rattle.lr_walk.specs.declared.trail.Did.{Did}
 use Rattle.lr_walk.specs.declared.trail.JobResult.{JobResult}
 use Rattle.lr_walk.specs.Calls.{DevicePlace}
+use Rattle.lr_walk.specs.Steps.{on_device, by_device}
+use Rattle.lr_walk.specs.Device.{seen_noted, seen_reply}
 use Rattle.lr_walk.specs.Jobs.{Context}
 use Rattle.lr_walk.specs.Trails.{Lists}
 use Rattle.lr_history.specs.Jobs.{JobSeen, calls, another}
 use Rattle.lr_history.specs.Run.{DeviceSeen, ActorSeen, Run}
 use Rattle.lr_history.specs.Lists.{own, context_of, entries_in}
 use Rattle.lr_history.specs.Premises.{IsRun, AreDeviceLogs, size_of}
-use Rattle.lr_history.specs.Told.{Fetched, fetched_in, led_in, Need, need, needed_in}
+use Rattle.lr_history.specs.Told.{Fetched, fetched_in, led_in, Need, need, needed_by, needed_in}
 
 -- A load that was made: of which chunk, and whether it got the claim on its name, and fetched.
 pub record LoadMade : Type 0 where
@@ -61,20 +63,23 @@ LoadsAreOnDemand =
     (run : Run) → IsRun run
     → AllByRecursion (λ (a : ActorSeen). AllZip (λ (job : JobSeen) (r : JobResult). IsOnDemand (context_of run) (own run a.number) job r.path.items) a.jobs a.results) run.actors
 
--- a moment in the log of a device, at which the demand of the call has the chunk
-pub record WasDemanded (run : Run) (n : Need) (device : ℕ) : Type 0 where
+-- an entry of the caller's in the log of a device: a plan of the call, whose answer told the chunk. It is in the demand of that moment.
+pub record WasDemanded (run : Run) (n : Need) (device caller : ℕ) : Type 0 where
   pub seen : DeviceSeen
   pub at : slice_get run.devices device ≡ Some seen
   pub before : List LogEntry
+  pub plan : LogEntry
   pub rest : List LogEntry
-  pub moment : seen.log ≡ before ++ rest
+  pub moment : seen.log ≡ before ++ plan ∷ rest
+  pub caller_is : plan.caller ≡ caller
+  pub told : Contains (needed_by device (on_device device (seen_noted plan.call)) (by_device (seen_reply plan.reply))) n
   pub demanded : Contains (demand (size_of seen) (made_by (size_of seen) before).written n.call) n.index
 
 -- The fetch is of a chunk that a plan of one of the actor's calls demanded, under the lease of the call's device.
 abbrev pub IsDemandedFetch : Run → ActorSeen → Fetched → Type 0
 IsDemandedFetch run a f =
     (device : ℕ) × (call : DeviceCall) × (place : DevicePlace) × Contains a.jobs (calls device call) × (slice_get (context_of run).devices device ≡ Some place)
-    × (f.lease ≡ place.lease) × WasDemanded run (need call f.index) device
+    × (f.lease ≡ place.lease) × WasDemanded run (need call f.index) device a.number
 
 abbrev pub FetchesAreDemanded : Type 0
 FetchesAreDemanded =

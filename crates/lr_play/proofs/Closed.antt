@@ -1,5 +1,6 @@
 -- What a play leaves, as its history takes it.
-use Rattle.std.proofs.Common.{◌≡◌, ◌<◌, ℕ, zero, suc, List, [], ◌∷◌, ◌++◌, length, map, Some, slice_get, refl, sym, ap, subst, ◌∙◌, arith}
+use Rattle.std.proofs.Common.{◌≡◌, ◌≢◌, ◌<◌, ◌≤◌, ◌+◌, ℕ, zero, suc, List, [], ◌∷◌, ◌++◌, length, map, Option, Some, None, slice_get, refl, sym, ap, subst, ◌∙◌, arith}
+use Rattle.std.specs.Prelude.{⊤}
 use Rattle.std.specs.List.{AllByRecursion, AllZip, Contains}
 use Rattle.std.proofs.lemmas.List.{length-map}
 use Rattle.lr_object.specs.declared.entry.Entry.{Entry}
@@ -11,9 +12,11 @@ use Rattle.lr_cache.specs.declared.call.CacheReply.{CacheReply}
 use Rattle.lr_depot.specs.Begun.{Start}
 use Rattle.lr_depot.specs.Depot.{Seen, first_state}
 use Rattle.lr_walk.specs.Jobs.{Context}
-use Rattle.lr_history.specs.Run.{DeviceLine}
+use Rattle.lr_history.specs.Run.{DeviceLine, ActorSeen}
+use Rattle.lr_history.specs.Histories.{HaveOwnNumbers}
+use Rattle.lr_history.specs.Claims.{HaveOwnLeases}
 use Rattle.lr_setup.specs.Setup.{devices_of, IsSetup}
-use Rattle.lr_script.specs.Seen.{ScriptSeen}
+use Rattle.lr_script.specs.Seen.{ScriptSeen, JobSeen}
 use Rattle.lr_actors.specs.declared.place.Parts.{Parts}
 use Rattle.lr_actors.specs.declared.place.Context.{Context as Kept}
 use Rattle.lr_actors.specs.declared.trail.Trail.{Trail}
@@ -25,11 +28,11 @@ use Rattle.lr_replies.specs.Replies.{AreMade}
 use Rattle.lr_world.specs.Calling.{objects_in}
 use Rattle.lr_world.specs.World.{Part, IsNumber}
 use Rattle.lr_world.specs.Runs.{HaveGained, Grew}
-use Rattle.lr_headline.specs.Closing.{Left, numbers_of, AreOf, size_of, IsClosing}
+use Rattle.lr_headline.specs.Closing.{Left, numbers_of, actor_seen, AreOf, size_of, IsClosing}
 use Rattle.lr_prepare.specs.Lines.{unnumbered, capacities}
 use Rattle.lr_prepare.specs.New.{new_device, new_cache}
 use Rattle.lr_prepare.specs.Prepared.{IsPrepared}
-use Rattle.lr_play.specs.Players.{Player, players_of}
+use Rattle.lr_play.specs.Players.{Player, actors_from, after_by, after_of, players_of}
 use Rattle.lr_play.specs.Acting.{AreGiven}
 use Rattle.lr_play.specs.Played.{IsTrail, left_by, closing_of, part_of}
 use Rattle.lr_play.proofs.Lists.{all_by, map_at, at_map, there, within}
@@ -55,6 +58,40 @@ number_left R (q ∷ players) (t ∷ told) h (suc i) n p e is =
     let more = number_left R players told h.1 i n p e is in
     let l : more.0 < length (numbers_of (left_by players told)) = more.1 in
     (suc more.0, omega (arith, l), more.2)
+
+-- the numbers of players ascend, so no two who have left have one
+abbrev Ascend : ℕ → List Player → Type 0
+Ascend n [] = ⊤
+Ascend n (p ∷ players) = (n ≤ p.number) × Ascend (p.number + 1) players
+
+above : (n : ℕ) (players : List Player) (told : List Trail) → Ascend (n + 1) players → AllByRecursion (λ (b : ActorSeen). b.number ≢ n) (map actor_seen (left_by players told))
+above n [] told h = tt
+above n (p ∷ players) [] h = tt
+above n (p ∷ players) (t ∷ told) h =
+    let low : n + 1 ≤ p.number = h.0 in
+    ((λ (same : p.number ≡ n). absurd (omega (arith, low, same))), above n players told (lower (p.number + 1) (n + 1) players (omega (arith, low)) h.1))
+  where
+    lower : (m k : ℕ) (ps : List Player) → k ≤ m → Ascend m ps → Ascend k ps
+    lower m k [] l a = tt
+    lower m k (q ∷ ps) l a = let x : m ≤ q.number = a.0 in (omega (arith, l, x), a.1)
+
+own_numbers : (n : ℕ) (players : List Player) (told : List Trail) → Ascend n players → HaveOwnNumbers (map actor_seen (left_by players told))
+own_numbers n [] told h = tt
+own_numbers n (p ∷ players) [] h = tt
+own_numbers n (p ∷ players) (t ∷ told) h = (above p.number players told h.1, own_numbers (p.number + 1) players told h.1)
+
+after_ascends : (n number : ℕ) (after : Option (List JobSeen)) → n ≤ number → Ascend n (after_by number after)
+after_ascends n number None l = tt
+after_ascends n number (Some jobs) l = (l, tt)
+
+ascends : (crashes : List (ℕ × ℕ)) (number : ℕ) (actors : List (List ℕ × List JobSeen)) (rest : List Player) → Ascend (number + length actors) rest → Ascend number (actors_from crashes number actors ++ rest)
+ascends crashes number [] rest h = let e : number + 0 ≡ number = omega arith in subst (λ (n : ℕ). Ascend n rest) e h
+ascends crashes number (a ∷ actors) rest h =
+    let e : number + suc (length actors) ≡ (number + 1) + length actors = omega arith in
+    (omega arith, ascends crashes (number + 1) actors rest (subst (λ (n : ℕ). Ascend n rest) e h))
+
+players_ascend : (script : ScriptSeen) → Ascend 1 (players_of script)
+players_ascend script = ascends script.crashes 1 script.actors (after_of script) (after_ascends (1 + length script.actors) (length script.actors + 1) script.after (omega arith))
 
 -- ---- objects
 
@@ -84,7 +121,8 @@ of_players {N} {T} parts actors old new fresh contains h = all_by (λ (s : Sized
 module _ {O : Type 0} (script : ScriptSeen) (depot : Seen O) (old new : Parts O) (kept : Kept) (p : IsPrepared script depot old kept) (told : List Trail)
     (grew : Grew (map (part_of (seen_context kept) kept.hosts) (players_of script)) (objects_in old) (objects_in new))
     (trails : AllZip (IsTrail (seen_context kept) (objects_in new)) (players_of script) told)
-    (given : AreGiven (seen_context kept) kept.hosts (players_of script)) (made : AreMade (objects_in new) (seen_context kept) kept.hosts) where
+    (given : AreGiven (seen_context kept) kept.hosts (players_of script)) (made : AreMade (objects_in new) (seen_context kept) kept.hosts)
+    (own_leases : HaveOwnLeases (seen_context kept)) where
   abbrev players : List Player
   players = players_of script
 
@@ -123,4 +161,6 @@ module _ {O : Type 0} (script : ScriptSeen) (depot : Seen O) (old new : Parts O)
     caches = of_players (map (part_of (seen_context kept) kept.hosts) players) (left_by players told) old.caches.items new.caches.items new_cache_log contains grew.caches;
     given = given_left (seen_context kept) kept.hosts players told given;
     trails = trails_left (seen_context kept) (objects_in new) players told trails;
+    numbers = own_numbers 1 players told (players_ascend script);
+    leases = own_leases;
   }

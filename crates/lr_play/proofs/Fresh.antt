@@ -21,6 +21,7 @@ use Rattle.lr_device.specs.Enters.{Enters}
 use Rattle.lr_cache.specs.declared.call.CacheCall.{CacheCall}
 use Rattle.lr_cache.specs.declared.call.CacheReply.{CacheReply}
 use Rattle.lr_cache.specs.Orderly.{IsCacheLog}
+use Rattle.lr_nodes.specs.Orderly.{IsNodeLog}
 use Rattle.lr_nodes.specs.declared.call.NodeCall.{NodeCall}
 use Rattle.lr_nodes.specs.declared.call.NodeReply.{NodeReply}
 use Rattle.lr_depot.specs.Begun.{Start}
@@ -221,6 +222,7 @@ module _ {O : Type 0} (seen : ScriptSeen) (within : IsWithin seen) (parts : Part
     devices = λ n d e. let a = new_at n d e in subst (λ (s : Sized DeviceNoted DeviceAnswer). Grown Answers Enters s.capacity [] s.log) a.2 grown.same;
     sizes = λ n d q e f. sized n d q (new_at n d e) (place_of_at n q f);
     caches = λ n c e. let a = cache_at n c e in subst (λ (s : Sized CacheCall CacheReply). IsCacheLog s.capacity s.log) a.1 grown.same;
+    nodes = λ n s e. subst (λ (x : Sized NodeCall NodeReply). IsNodeLog x.capacity x.log) (repeated seen.nodes (new_node seen.cap) s n (ap (λ (xs : List (Sized NodeCall NodeReply)). slice_get xs n) (sym p.nodes) ∙ e)) grown.same;
     start = started;
     depot = runs;
     many = (

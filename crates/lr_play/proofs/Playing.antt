@@ -3,6 +3,7 @@ use Rattle.std.proofs.Common.{◌≡◌, ◌≤◌, ◌+◌, ℕ, List, [], ◌+
 use Rattle.std.specs.List.{AllZip}
 use Rattle.lr_object.specs.declared.id.ObjectId.{ObjectId}
 use Rattle.lr_walk.specs.Jobs.{Context}
+use Rattle.lr_history.specs.Claims.{HaveOwnLeases}
 use Rattle.lr_depot.specs.Depot as depots
 use Rattle.lr_depot.specs.Depot.{IsStart}
 use Rattle.lr_script.specs.Seen.{Serial, ScriptSeen}
@@ -26,6 +27,9 @@ use Rattle.lr_play.proofs.Beginning.{cast_is, may_begin, may_schedule, actors_ar
 use Rattle.lr_play.proofs.Told.{all_trails, all_fit, all_let_go}
 use Rattle.lr_play.proofs.Growing.{grew_both}
 use Rattle.lr_play.proofs.Closed.{closed}
+
+one_place : {X : Type 0} (xs : List X) (i j : ℕ) (x y : X) → i ≡ j → slice_get xs i ≡ Some x → slice_get xs j ≡ Some y → x ≡ y
+one_place xs i j x y same e f = let here : slice_get xs j ≡ Some x = ap (slice_get xs) (sym same) ∙ e in cc (here, f)
 
 module _ {O : Type 0} (script : ScriptSeen) (within : IsWithin script) (context : Context) (hosts : ℕ) (old : Seen O) (fresh : IsFresh script context hosts (objects_of old)) (actors : AreNew context hosts (actors_of script) old.actors) where
   pub first_begins : MayBegin context hosts old
@@ -127,14 +131,18 @@ module _ {O : Type 0} (script : ScriptSeen) (within : IsWithin script) (context 
             (all_trails script context hosts (actors_of script) script.schedule old parts told actors acted world (objects_in last) actor_lists)
             (all_trails script context hosts (after_of script) Serial later last more after ended after_world (objects_in last) after_lists)
 
+        actors_grew : Grew (map (part_of context hosts) (actors_of script)) (objects_of old) w
+        actors_grew = subst (λ (xs : List Part). Grew xs (objects_of old) w) first_cast acted.left.grew
+
+        after_grew : Grew (map (part_of context hosts) (after_of script)) w (objects_in last)
+        after_grew =
+            subst (λ (xs : List Part). Grew xs w (objects_in last)) later_cast
+            (subst (λ (u : Objects). Grew (cast_of later) u (objects_in last)) same (subst (Grew (cast_of later) (objects_of later)) (sym ended.objects) ended.left.grew))
+
         pub final_grew : Grew (map (part_of context hosts) (players_of script)) (objects_of old) (objects_in last)
         final_grew =
-            let one : Grew (map (part_of context hosts) (actors_of script)) (objects_of old) w = subst (λ (xs : List Part). Grew xs (objects_of old) w) first_cast acted.left.grew in
-            let two : Grew (map (part_of context hosts) (after_of script)) w (objects_in last) =
-            subst (λ (xs : List Part). Grew xs w (objects_in last)) later_cast
-            (subst (λ (u : Objects). Grew (cast_of later) u (objects_in last)) same (subst (Grew (cast_of later) (objects_of later)) (sym ended.objects) ended.left.grew)) in
             subst (λ (xs : List Part). Grew xs (objects_of old) (objects_in last)) (sym (map_both (part_of context hosts) (actors_of script) (after_of script)))
-            (grew_both (map (part_of context hosts) (actors_of script)) (map (part_of context hosts) (after_of script)) (objects_of old) w (objects_in last) one two)
+            (grew_both (map (part_of context hosts) (actors_of script)) (map (part_of context hosts) (after_of script)) (objects_of old) w (objects_in last) actors_grew after_grew)
 
         pub played : (depot : depots.Seen O) (before : Parts O) (kept : Kept) (all : List Trail) (p : IsPrepared script depot before kept) → seen_context kept ≡ context → kept.hosts ≡ hosts → objects_in before ≡ objects_of old → all ≡ told ++ more
             → AreGiven context hosts (players_of script) → IsPlayed script p.lines kept before last all
@@ -149,8 +157,16 @@ module _ {O : Type 0} (script : ScriptSeen) (within : IsWithin script) (context 
             subst (λ (c : Context). AreGiven c kept.hosts (players_of script)) (sym is_context) (subst (λ (h : ℕ). AreGiven context h (players_of script)) (sym are_hosts) given) in
             let made : AreMade (objects_in last) (seen_context kept) kept.hosts =
             subst (λ (c : Context). AreMade (objects_in last) c kept.hosts) (sym is_context) (subst (AreMade (objects_in last) context) (sym are_hosts) final_made) in
+            let own_leases : HaveOwnLeases (seen_context kept) =
+            subst HaveOwnLeases (sym is_context) (λ i j x y e f same_lease. one_place context.devices i j x y (fresh.leases i j x y e f same_lease) e f) in
             record {
               grew = grew;
+              mid = w;
+              first = subst (λ (c : Context). Grew (map (part_of c kept.hosts) (actors_of script)) (objects_in before) w) (sym is_context)
+                  (subst (λ (h : ℕ). Grew (map (part_of context h) (actors_of script)) (objects_in before) w) (sym are_hosts)
+                  (subst (λ (u : Objects). Grew (map (part_of context hosts) (actors_of script)) u w) (sym first) actors_grew));
+              second = subst (λ (c : Context). Grew (map (part_of c kept.hosts) (after_of script)) w (objects_in last)) (sym is_context)
+                  (subst (λ (h : ℕ). Grew (map (part_of context h) (after_of script)) w (objects_in last)) (sym are_hosts) after_grew);
               trails = trails;
               front = told;
               last = more;
@@ -159,5 +175,5 @@ module _ {O : Type 0} (script : ScriptSeen) (within : IsWithin script) (context 
               after = all_fit script context hosts (after_of script) Serial later last more after ended after_world tt;
               free = all_let_go script context hosts (actors_of script) script.schedule old parts told actors acted world (objects_in last) actor_lists actor_sessions;
               after_free = all_let_go script context hosts (after_of script) Serial later last more after ended after_world (objects_in last) after_lists after_sessions;
-              closing = closed script depot before last kept p all grew trails may made;
+              closing = closed script depot before last kept p all grew trails may made own_leases;
             }

@@ -68,6 +68,10 @@ part_of context hosts p = record { number = p.number; context = context; hosts =
 -- each has its trail, and what is left is what a run leaves.
 pub record IsPlayed {O : Type 0} (script : ScriptSeen) (lines : List SetupLine) (context : Kept) (old new : Parts O) (told : List Trail) : Type 0 where
   pub grew : Grew (map (part_of (seen_context context) context.hosts) (players_of script)) (objects_in old) (objects_in new)
+  -- first each log has entries of the actors more, and then of the after part
+  pub mid : Objects
+  pub first : Grew (map (part_of (seen_context context) context.hosts) (actors_of script)) (objects_in old) mid
+  pub second : Grew (map (part_of (seen_context context) context.hosts) (after_of script)) mid (objects_in new)
   pub trails : AllZip (IsTrail (seen_context context) (objects_in new)) (players_of script) told
   pub front : List Trail
   pub last : List Trail

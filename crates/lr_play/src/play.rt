@@ -19,6 +19,7 @@ use lr_actors::{Actor, Context, Parts, Trail};
 use lr_origin::Origin;
 use lr_prepare::leases_are_out;
 use lr_script::{Schedule, Script};
+use lr_spec::OutOfMemory;
 use lr_world::World;
 use std::alloc::Global;
 
@@ -70,6 +71,32 @@ pub(crate) fn act<O: Origin>(
     let (parts, actors) = world.end();
     trails_of(trails, actors);
     parts
+}
+
+/// A script's actors, without that of the after part, as they may begin over the parts that its setup lines gave: for one who steps them
+/// one by one, where `perform` plays them in the script's order.
+pub fn new_actors<O: Origin>(
+    alloc: Global,
+    script: &Script,
+    parts: &Parts<O>,
+    context: Context,
+) -> Result<Vec<Actor>, OutOfMemory>
+    requires within { IsWithin script.now }
+    requires started { IsStart parts.now.depot.start }
+    requires prepared { (depot : Seen O) × IsPrepared script.now depot parts.now context }
+    ensures { IfOk result (λ actors. (shared : Shared) × (hosts : ℕ) × MayBegin shared hosts (seen_of parts.now actors)) }
+{
+    jobs_may_be_given();
+    leases_are_out();
+    let Ok(cast) = cast_of(alloc, script, context) else {
+        return Err(OutOfMemory);
+    };
+    let Cast {
+        actors,
+        after: _,
+        trails: _,
+    } = cast;
+    Ok(actors)
 }
 
 /// Plays a script over the parts that its setup lines gave: its actors in the order of its schedule, and then the after part alone.

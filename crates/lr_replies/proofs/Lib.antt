@@ -1,5 +1,6 @@
 mod Facts
 mod Seen
+mod Unspoiled
 mod Told
 mod Out
 mod Tables

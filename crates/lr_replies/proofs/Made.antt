@@ -13,6 +13,10 @@ use Rattle.lr_cache.specs.declared.call.CacheCall.{CacheCall}
 use Rattle.lr_cache.specs.declared.call.CacheReply.{CacheReply}
 use Rattle.lr_cache.specs.Machine as cache
 use Rattle.lr_cache.specs.Orderly.{IsCacheLog}
+use Rattle.lr_nodes.specs.declared.call.NodeCall.{NodeCall}
+use Rattle.lr_nodes.specs.declared.call.NodeReply.{NodeReply}
+use Rattle.lr_nodes.specs.Machine as node
+use Rattle.lr_nodes.specs.Orderly.{IsNodeLog}
 use Rattle.lr_rules.specs.State.{State}
 use Rattle.lr_depot.specs.declared.call.DepotCall.{DepotCall}
 use Rattle.lr_depot.specs.declared.call.DepotReply.{DepotReply}
@@ -44,6 +48,14 @@ module _ (old new : Objects) (context : Context) (hosts : ℕ) (made : AreMade o
 
   caches_stay : new.caches ≡ old.caches → (n : ℕ) (c : _) → slice_get new.caches n ≡ Some c → IsCacheLog c.capacity c.log
   caches_stay e n c at = made.caches n c (ap (λ xs. slice_get xs n) (sym e) ∙ at)
+
+  nodes_stay : new.nodes ≡ old.nodes → (n : ℕ) (s : _) → slice_get new.nodes n ≡ Some s → IsNodeLog s.capacity s.log
+  nodes_stay e n s at = made.nodes n s (ap (λ xs. slice_get xs n) (sym e) ∙ at)
+
+  node_made : (was : Sized NodeCall NodeReply) (log : _) (caller : ℕ) (asked : NodeCall) (reply : NodeReply) (b : Bool) → node.NodeStep (node.run was.capacity was.log) asked reply
+      → Logs b (λ e. node.Enters asked reply e) caller was.log log → IsNodeLog was.capacity was.log → IsNodeLog was.capacity log
+  node_made was log caller asked reply true a l g = subst (IsNodeLog was.capacity) (sym l.1) (more g asked reply l.0 a l.3)
+  node_made was log caller asked reply false a l g = subst (IsNodeLog was.capacity) (sym l) g
 
   depot_stays : new.start ≡ old.start → new.depot ≡ old.depot → IsRun (first_state new.start) new.depot
   depot_stays e f = rw (e, f) made.depot
@@ -86,6 +98,7 @@ module _ (old new : Objects) (context : Context) (hosts : ℕ) (made : AreMade o
         sizes = λ m d place at. each_at old.devices new.devices n enters number (λ (m : ℕ) (x : Sized DeviceNoted DeviceAnswer). (place : DevicePlace) → slice_get context.devices m ≡ Some place → x.capacity ≤ 524288 * length place.names) (device.is_logged reply)
             (λ m x at place. made.sizes m x place at) l (λ h. h) m d at place;
         caches = caches_stay c.others.0;
+        nodes = nodes_stay c.others.1;
         start = start_stays c.start;
         depot = depot_stays c.start c.others.2;
         many = (l.4.many ∙ made.many.0, ap length c.others.0 ∙ made.many.1, ap length c.others.1 ∙ made.many.2);
@@ -100,24 +113,32 @@ module _ (old new : Objects) (context : Context) (hosts : ℕ) (made : AreMade o
         sizes = sizes_stay c.others.0;
         caches = each_at old.caches new.caches n enters number (λ (m : ℕ) (x : Sized CacheCall CacheReply). IsCacheLog x.capacity x.log) (cache.is_logged reply) made.caches l
             (cache_made l.0 l.1 number asked reply (cache.is_logged reply) answers l.3);
+        nodes = nodes_stay c.others.1;
         start = start_stays c.start;
         depot = depot_stays c.start c.others.2;
         many = (ap length c.others.0 ∙ made.many.0, l.4.many ∙ made.many.1, ap length c.others.1 ∙ made.many.2);
       }
   by_call number (call.Node n asked) (by.Node reply) c =
+      let l = c.logs in
+      let enters : Sized NodeCall NodeReply → Entry NodeCall NodeReply → Type 0 = λ d e. node.Enters asked reply e in
+      let was : c.replies.0 ≡ l.0 = same_some (slice_get old.nodes n) c.replies.0 l.0 c.replies.1 l.2 in
+      let answers : node.NodeStep (node.run l.0.capacity l.0.log) asked reply = subst (λ (d : Sized NodeCall NodeReply). node.NodeStep (node.run d.capacity d.log) asked reply) was c.replies.2 in
       record {
         devices = devices_stay c.others.0;
         sizes = sizes_stay c.others.0;
         caches = caches_stay c.others.1;
+        nodes = each_at old.nodes new.nodes n enters number (λ (m : ℕ) (x : Sized NodeCall NodeReply). IsNodeLog x.capacity x.log) (node.is_logged reply) made.nodes l
+            (node_made l.0 l.1 number asked reply (node.is_logged reply) answers l.3);
         start = start_stays c.start;
         depot = depot_stays c.start c.others.2;
-        many = (ap length c.others.0 ∙ made.many.0, ap length c.others.1 ∙ made.many.1, c.logs.4.many ∙ made.many.2);
+        many = (ap length c.others.0 ∙ made.many.0, ap length c.others.1 ∙ made.many.1, l.4.many ∙ made.many.2);
       }
   by_call number (call.Depot asked) (by.Depot reply) c =
       record {
         devices = devices_stay c.others.0;
         sizes = sizes_stay c.others.0;
         caches = caches_stay c.others.1;
+        nodes = nodes_stay c.others.2;
         start = start_stays c.start;
         depot = depot_made number asked reply (depot.is_logged reply) c.start c.replies c.logs;
         many = (ap length c.others.0 ∙ made.many.0, ap length c.others.1 ∙ made.many.1, ap length c.others.2 ∙ made.many.2);

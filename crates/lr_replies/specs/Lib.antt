@@ -1,3 +1,4 @@
 pub mod Seen
 pub mod Objects
 pub mod Replies
+pub mod Unspoiled

@@ -8,6 +8,7 @@ use Rattle.lr_manifest.specs.Manifest.{ManifestFields}
 use Rattle.lr_device.specs.Answers.{Answers}
 use Rattle.lr_device.specs.Enters.{Enters}
 use Rattle.lr_cache.specs.Orderly.{IsCacheLog}
+use Rattle.lr_nodes.specs.Orderly.{IsNodeLog}
 use Rattle.lr_depot.specs.Depot.{IsStart, first_state, state}
 use Rattle.lr_depot.specs.Store.{IsRun}
 use Rattle.lr_walk.specs.Calls.{DevicePlace}
@@ -36,6 +37,7 @@ pub record AreMade (w : Objects) (context : Context) (hosts : ℕ) : Type 0 wher
   pub devices : (n : ℕ) (d : _) → slice_get w.devices n ≡ Some d → Grown Answers Enters d.capacity [] d.log
   pub sizes : (n : ℕ) (d : _) (place : DevicePlace) → slice_get w.devices n ≡ Some d → slice_get context.devices n ≡ Some place → d.capacity ≤ 524288 * length place.names
   pub caches : (n : ℕ) (c : _) → slice_get w.caches n ≡ Some c → IsCacheLog c.capacity c.log
+  pub nodes : (n : ℕ) (s : _) → slice_get w.nodes n ≡ Some s → IsNodeLog s.capacity s.log
   pub start : IsStart w.start
   pub depot : IsRun (first_state w.start) w.depot
   pub many : (length w.devices ≡ length context.devices) × (length w.caches ≡ hosts) × (length w.nodes ≡ context.nodes)

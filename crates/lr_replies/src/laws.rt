@@ -1,6 +1,7 @@
 //! Laws, as contracts of functions that do nothing.
 ghost use Rattle.lr_replies.specs.Seen.{JobsAreSeen, TrailsAreSeen};
 ghost use Rattle.lr_replies.specs.Replies.{RepliesAreAdmitted, ListsGain, LogsStayMade, LeasesStayOut, LooksHoldNone, EndedHoldNone};
+ghost use Rattle.lr_replies.specs.Unspoiled.{SpoiledJobsWereTold};
 
 /// Each walk of an actor's job is one of what a history sees of the job.
 pub fn jobs_are_seen()
@@ -10,6 +11,11 @@ pub fn jobs_are_seen()
 /// A trail of an actor is one over what a history sees of its jobs.
 pub fn trails_are_seen()
     ensures { TrailsAreSeen }
+{}
+
+/// A job other than a device call ends with a spoiled key only where the depot told it so.
+pub fn spoiled_jobs_were_told()
+    ensures { SpoiledJobsWereTold }
 {}
 
 /// An actor that stands for its own lists takes each reply that the called object gives, whatever the others did.

@@ -1,5 +1,5 @@
 mod Steps
 mod Opening
-mod Unspoiled
+pub mod Unspoiled
 mod Whole
 mod Leases

@@ -10,6 +10,9 @@ use Rattle.lr_object.specs.declared.id.ObjectId.TheVariants.{Depot}
 use Rattle.lr_opening.specs.Store.{HasChunks}
 use Rattle.lr_rules.specs.State.{State}
 use Rattle.lr_rules.specs.Safe.{IsSafe}
+use Rattle.lr_rules.proofs.Start.{start_safe}
+use Rattle.lr_depot.specs.Begun.{Start}
+use Rattle.lr_depot.specs.Depot.{LedTo, first_state}
 use Rattle.lr_depot.specs.declared.call.DepotReply.{DepotReply}
 use Rattle.lr_depot.specs.declared.call.DepotReply.TheVariants as reply
 use Rattle.lr_depot.specs.declared.call.DepotTold.{DepotTold}
@@ -17,7 +20,7 @@ use Rattle.lr_depot.specs.declared.call.DepotTold.TheVariants as told
 use Rattle.lr_depot.specs.Machine.{LogEntry, IsTold, DepotStep, after_entry}
 use Rattle.lr_depot.specs.Store.{LeadsTo, StoreStep, Follows}
 use Rattle.lr_depot.proofs.Moved.{entry_safe}
-use Rattle.lr_depot.proofs.Followed.{never_spoiled, entry_follows, entry_chunks}
+use Rattle.lr_depot.proofs.Followed.{never_spoiled, start_follows, entry_follows, entry_chunks}
 use Rattle.lr_device.specs.declared.call.DeviceCall.{DeviceCall}
 use Rattle.lr_walk.specs.declared.trail.Answer.{Answer}
 use Rattle.lr_walk.specs.declared.trail.Answer.TheVariants.{Spoiled}
@@ -52,7 +55,7 @@ told_unspoiled : (r : DepotReply) (t : DepotTold) → IsTold r t → ((k : KeyKi
 told_unspoiled r (told.Spoiled key) h never = let s = spoiled_reply r key h in never s.0 s.1
 told_unspoiled r t h never = tt
 
-pub log_unspoiled : (s : State) (m : Objects) (log : List LogEntry) (n : Objects) → IsSafe s → Follows s.known m → HasChunks m → LeadsTo s m log n
+log_unspoiled : (s : State) (m : Objects) (log : List LogEntry) (n : Objects) → IsSafe s → Follows s.known m → HasChunks m → LeadsTo s m log n
     → AllByRecursion (λ (e : LogEntry). IsUnspoiled e.reply) log
 log_unspoiled s m [] n safe follows chunks leads = tt
 log_unspoiled s m (e ∷ es) n safe follows chunks leads = (
@@ -65,9 +68,13 @@ log_unspoiled s m (e ∷ es) n safe follows chunks leads = (
       (entry_chunks s safe e leads.0 leads.1 m leads.2 leads.3 leads.5 leads.4 chunks) leads.6,
 )
 
+pub led_unspoiled : (start : Start) (m : Objects) (log : List LogEntry) (n : Objects) → LedTo start m log n → HasChunks m → AllByRecursion (λ (e : LogEntry). IsUnspoiled e.reply) log
+led_unspoiled start m log n led chunks =
+    log_unspoiled (first_state start) m log n (start_safe start.view start.number led.begun.may) (start_follows start.view start.number m led.mirrors) chunks led.leads
+
 -- ---- its entries as steps
 
-abbrev IsUnspoiledReply : Reply → Type 0
+abbrev pub IsUnspoiledReply : Reply → Type 0
 IsUnspoiledReply (by_depot (depots.spoiled key)) = ⊥
 IsUnspoiledReply r = ⊤
 

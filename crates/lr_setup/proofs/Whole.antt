@@ -5,7 +5,6 @@ use Rattle.std.proofs.lemmas.Option.{slice_get-map, same_Some}
 use Rattle.lr_rules.specs.State.{State}
 use Rattle.lr_rules.proofs.Start.{start_safe}
 use Rattle.lr_depot.proofs.Logged.{leads_run}
-use Rattle.lr_depot.proofs.Followed.{start_follows}
 use Rattle.lr_depot.specs.Begun.{Start}
 use Rattle.lr_depot.specs.Depot.{first_state}
 use Rattle.lr_depot.specs.Machine.{LogEntry, after_entry}
@@ -24,7 +23,7 @@ use Rattle.lr_history.specs.Jobs.{JobSeen, calls}
 use Rattle.lr_history.specs.Run.{ActorSeen}
 use Rattle.lr_history.specs.Lists.{own}
 use Rattle.lr_history.specs.Histories.{IsAnswered, AreLegalWhereAgreed}
-use Rattle.lr_setup.proofs.Unspoiled.{IsUnspoiled, log_unspoiled, jobs_unspoiled, own_unspoiled}
+use Rattle.lr_setup.proofs.Unspoiled.{IsUnspoiled, led_unspoiled, jobs_unspoiled, own_unspoiled}
 use Rattle.lr_setup.specs.Whole.{IsWhole, NoneIsSpoiled, Serves}
 use Rattle.lr_setup.proofs.Opening.{all_opened}
 
@@ -65,8 +64,7 @@ unspoiled start lines run w =
     (λ a h. jobs_unspoiled (own run a.number) (own_unspoiled a.number run.depot all) a.jobs a.results h) run.actors (jobs_told run w.trails)
   where
     all : AllByRecursion (λ (e : LogEntry). IsUnspoiled e.reply) run.depot
-    all = log_unspoiled (first_state start) run.opening run.depot run.closing (start_safe start.view start.number w.led.begun.may)
-        (start_follows start.view start.number run.opening w.led.mirrors) w.chunks w.led.leads
+    all = led_unspoiled start run.opening run.depot run.closing w.led w.chunks
 
 pub served : (start : Start) (lines : List SetupLine) (run : Run) → IsWhole start lines run → AreLegalWhereAgreed run → HaveDistinctDigests (strings_of run) → Serves run
 served start lines run w legal apart = record {

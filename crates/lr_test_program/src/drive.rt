@@ -150,16 +150,20 @@ fn refusal(answer: &Answer) -> Ended {
     }
 }
 
+/// How a job ended.
+pub(crate) fn end_of(answer: &Answer) -> Ended {
+    match deed(answer) {
+        Some(ended) => ended,
+        None => refusal(answer),
+    }
+}
+
 /// What the jobs of all actors ended with.
 pub(crate) fn results(alloc: Global, trails: &[Trail]) -> Result<Vec<Ended>, Fail> {
     let mut all = Vec::new(alloc);
     for trail in trails {
         for result in &trail.results {
-            let ended = match deed(&result.answer) {
-                Some(ended) => ended,
-                None => refusal(&result.answer),
-            };
-            all.push(ended)?;
+            all.push(end_of(&result.answer))?;
         }
     }
     Ok(all)

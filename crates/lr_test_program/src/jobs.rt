@@ -201,8 +201,8 @@ fn each_kind_of_job(rt: HostRuntime) -> Result<(), Fail> {
     Ok(())
 }
 
-// A store whose put of the second root fails, with or without its effect.
-fn failing(alloc: Global, done: bool) -> Result<MemOrigin, Fail> {
+/// A store whose put of the second root fails, with or without its effect.
+pub(crate) fn failing(alloc: Global, done: bool) -> Result<MemOrigin, Fail> {
     let mut fails = Vec::new(alloc);
     fails.push(FailsAt {
         op: Op::Put,
@@ -351,6 +351,8 @@ const SHORT_ROWS: &[ShortRow] = &[
             ("swept", 2),
         ],
     ),
+    // The end of a lease asks the store for nothing.
+    ("close", 5, &["after", "close d"], &[("closed", 0)]),
 ];
 
 // A job that finds no memory at its call of the store says so, leaves nothing out, and does its work when it is done again.

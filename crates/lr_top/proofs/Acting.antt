@@ -8,6 +8,7 @@ use Rattle.lr_origin.specs.Objects.{Objects}
 use Rattle.lr_roots.specs.Catalog.{Seen as Catalog}
 use Rattle.lr_opening.specs.declared.cause.StartCause.{StartCause}
 use Rattle.lr_opening.specs.Cause.{IsCause}
+use Rattle.lr_opening.specs.Store.{HasChunks}
 use Rattle.lr_opening.proofs.Bounded.{fewer_not_many}
 use Rattle.lr_opening.proofs.Views.{sound_store_is_not_foreign}
 use Rattle.lr_depot.specs.Begun.{Start}
@@ -34,10 +35,10 @@ use Rattle.lr_top.specs.declared.ends.PlayEnd.{PlayEnd}
 use Rattle.lr_top.specs.declared.ends.PlayEnd.TheVariants.{By}
 use Rattle.lr_top.specs.Ends.{status_of, line_of}
 use Rattle.lr_top.specs.Input.{IfOutside}
-use Rattle.lr_top.specs.Top.{IsOutsideAt, MatchRun, IfRun, IfCommand, Met, unread_end, end_of, Comes, StoppedFrom, IsPlayEnd, Leaves, IsComplete, Completes, IsExact, IsPlayedAs}
+use Rattle.lr_top.specs.Top.{IsOutsideAt, MatchRun, IfRun, IfCommand, Met, unread_end, end_of, Comes, StoppedFrom, IsPlayEnd, Leaves, IsUnspoiledEnd, IsComplete, Completes, IsExact, IsPlayedAs}
 use Rattle.lr_top.specs.Played.{PlayedFrom, HasPlayed, Headline}
 use Rattle.lr_top.specs.Acts.{Sunk, ActsFrom, EndsFrom}
-use Rattle.lr_top.proofs.Meeting.{unread_comes, unread_exact, unread_unbegun, cause_comes, cause_exact, cause_unbegun, stopped_comes, stopped_complete, stopped_status}
+use Rattle.lr_top.proofs.Meeting.{unread_comes, unread_exact, unread_unbegun, cause_comes, cause_exact, cause_unbegun, stopped_comes, stopped_unspoiled, stopped_complete, stopped_status}
 use Rattle.lr_top.proofs.Reported.{whole_front}
 
 -- ---- no depot was started
@@ -107,6 +108,10 @@ written_complete m sunk WriteFault text w rose quiet = absurd (quiet (rose refl)
 written_complete m sunk Memory text w rose quiet = tt
 written_complete m sunk o text w rose quiet = absurd w
 
+written_unspoiled : (sunk : Sunk) (o : Outcome) (text : List ℕ) → Written sunk o text → IsUnspoiledEnd (By o)
+written_unspoiled sunk (Spoiled key) text w = w
+written_unspoiled sunk o text w = tt
+
 module _ {O : Type 0} (objects : O → Option Objects) (faults : O → ℕ) (first : Seen O) (script : ScriptSeen) (sunk : Sunk) (after : O) where
   pub stopped_from : (last : Seen O) (error : SetupError) (r : RunRecord) (status : ℕ) (line : List ℕ) → last.start ≡ first.start → IsLeft first.start script.setup last.log error → status ≡ status_of (end_of error) → line ≡ line_of (end_of error)
       → IfCommand r (λ left. (catalog : Catalog) × IsEnded objects faults last after left catalog) → MatchRun r ⊥ (λ _. ⊥) → sunk.written_after ≡ sunk.written_before → ErrorsAreTold → ToldErrorsCome → EndsFrom objects faults first script sunk after r status line
@@ -151,6 +156,11 @@ module _ {O : Type 0} (objects : O → Option Objects) (faults : O → ℕ) (fir
           let l = led_left os t in
           subst IsComplete (sym s.tells) (stopped_complete met left.log covers_left s.error s.told still (unspoiled first.start os l.0 left.log l.1 sound.1))
 
+      left_unspoiled : SoundStoresAreUnspoiled → Told (objects before) (λ os. HasChunks os → IsUnspoiledEnd end)
+      left_unspoiled unspoiled os t chunks =
+          let l = led_left os t in
+          subst IsUnspoiledEnd (sym s.tells) (stopped_unspoiled met left.log covers_left s.error s.told (unspoiled first.start os l.0 left.log l.1 chunks))
+
     acts_comes : (r : RunRecord) (end : PlayEnd) → ActsFrom objects faults first script sunk after r end → Comes met end
     acts_comes record_of.Nothing end h = absurd h
     acts_comes (record_of.Command left) end h = left_comes left end h.0
@@ -161,11 +171,17 @@ module _ {O : Type 0} (objects : O → Option Objects) (faults : O → ℕ) (fir
     acts_complete (record_of.Command left) end unspoiled h still unread quiet xs told script spells os t sound few = left_complete left end h.0 unspoiled still unread quiet xs told script spells os t sound few
     acts_complete (record_of.Run run) end unspoiled (played, same, (outcome, is, written, rose)) still unread quiet xs told script spells os t sound few = subst IsComplete (sym is) (written_complete met sunk outcome (report_text run) written rose quiet)
 
+    acts_unspoiled : (r : RunRecord) (end : PlayEnd) → SoundStoresAreUnspoiled → ActsFrom objects faults first script sunk after r end → Told (objects before) (λ os. HasChunks os → IsUnspoiledEnd end)
+    acts_unspoiled record_of.Nothing end unspoiled h os t chunks = absurd h
+    acts_unspoiled (record_of.Command left) end unspoiled h os t chunks = left_unspoiled left end h.0 unspoiled os t chunks
+    acts_unspoiled (record_of.Run run) end unspoiled (played, same, (outcome, is, written, rose)) os t chunks = subst IsUnspoiledEnd (sym is) (written_unspoiled sunk outcome (report_text run) written)
+
     acts_exact : (r : RunRecord) (end : PlayEnd) → SoundStoresAreUnspoiled → ActsFrom objects faults first script sunk after r end → IsExact met end
     acts_exact r end unspoiled h = record {
       foreign = λ os t key foreign few. absurd (sound_store_is_not_foreign os first.start.view (started.start.mirrors os (started.told ∙ t)) started.start.may.sound key foreign);
       many = λ os t many. absurd (fewer_not_many os (2 ^ 32) (started.few os t) many);
       complete = acts_complete r end unspoiled h;
+      unspoiled = acts_unspoiled r end unspoiled h;
     }
 
     module _ (reads : ScriptSeen → Type 0) (read : reads script) where

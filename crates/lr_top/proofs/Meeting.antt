@@ -34,7 +34,7 @@ use Rattle.lr_top.specs.declared.input.InputError.TheVariants as input
 use Rattle.lr_top.specs.declared.ends.PlayEnd.TheVariants.{By}
 use Rattle.lr_top.specs.Ends.{status_of}
 use Rattle.lr_top.specs.Input.{IfOutside}
-use Rattle.lr_top.specs.Top.{IsOutsideAt, Met, unread_end, at_line, end_of, Comes, IsUnbegun, IsForeignEnd, IsManyEnd, IsComplete, Completes, IsExact}
+use Rattle.lr_top.specs.Top.{IsOutsideAt, Met, unread_end, at_line, end_of, Comes, IsUnbegun, IsForeignEnd, IsManyEnd, IsUnspoiledEnd, IsComplete, Completes, IsExact}
 
 -- an entry of the log has the reply that made the error
 abbrev IsTold : List LogEntry → SetupError → Type 0
@@ -70,11 +70,17 @@ module _ (m : Met) where
   unread_complete input.Failed outside rose still unread quiet xs t script spells os s sound few = absurd (unread (rose refl))
   unread_complete input.OutOfMemory outside rose still unread quiet xs t script spells os s sound few = tt
 
+  unread_unspoiled : (e : InputError) → IsUnspoiledEnd (unread_end e)
+  unread_unspoiled (input.Outside n) = tt
+  unread_unspoiled input.Failed = tt
+  unread_unspoiled input.OutOfMemory = tt
+
   pub unread_exact : (e : InputError) → IfOutside e (λ n. IsOutsideAt m.source n) → (e ≡ input.Failed → Rose m.source_before m.source_after) → IsExact m (unread_end e)
   unread_exact e outside rose = record {
     foreign = λ os t key foreign few. unread_foreign os e;
     many = λ os t many. unread_many e;
     complete = unread_complete e outside rose;
+    unspoiled = λ os t chunks. unread_unspoiled e;
   }
 
   pub unread_unbegun : (told : Option Objects) (e : InputError) → IsUnbegun told (unread_end e)
@@ -117,8 +123,15 @@ module _ (m : Met) where
   cause_complete cause.TooMany h still unread quiet xs s script spells os t sound few = absurd (fewer_not_many os (2 ^ 32) few (h os t))
   cause_complete cause.OutOfMemory h still unread quiet xs s script spells os t sound few = tt
 
+  cause_unspoiled : (c : StartCause) → IsCause m.objects m.origin_before m.origin_after c → Told m.objects (λ os. IsUnspoiledEnd (By (cause_of c)))
+  cause_unspoiled (cause.Fault k) h os t = tt
+  cause_unspoiled (cause.Spoiled k) h os t = absurd (h.1 os t)
+  cause_unspoiled (cause.Foreign key) h os t = tt
+  cause_unspoiled cause.TooMany h os t = tt
+  cause_unspoiled cause.OutOfMemory h os t = tt
+
   pub cause_exact : (c : StartCause) → IsCause m.objects m.origin_before m.origin_after c → IsExact m (By (cause_of c))
-  cause_exact c h = record { foreign = cause_foreign c h; many = cause_many c h; complete = cause_complete c h }
+  cause_exact c h = record { foreign = cause_foreign c h; many = cause_many c h; complete = cause_complete c h; unspoiled = λ os t chunks. cause_unspoiled c h os t }
 
   pub cause_unbegun : (c : StartCause) → IsCause m.objects m.origin_before m.origin_after c → IsUnbegun m.objects (By (cause_of c))
   cause_unbegun (cause.Fault k) h = tt
@@ -147,6 +160,15 @@ module _ (m : Met) where
   refused_complete n roots_end h = tt
   refused_complete n r h = absurd h
 
+  refused_unspoiled : (n : ℕ) (r : Reply) → Refuses r → IsUnspoiledEnd (at_line n (failure (outcome_of r)))
+  refused_unspoiled n no_image h = tt
+  refused_unspoiled n no_root h = tt
+  refused_unspoiled n taken h = tt
+  refused_unspoiled n (doubt key) h = tt
+  refused_unspoiled n full h = tt
+  refused_unspoiled n roots_end h = tt
+  refused_unspoiled n r h = absurd h
+
   module _ (log : List LogEntry) (covers : Covers m.origin_before log m.origin_after) where
     fault_rose : IsTold log setup.Fault → Rose m.origin_before m.origin_after
     fault_rose h = let t = h tt in rose_by m.origin_before log m.origin_after covers (t.0, t.1, fault_outcome (seen_told t.0.reply) t.2)
@@ -161,6 +183,13 @@ module _ (m : Met) where
     told_spoiled : (t : DepotTold) (key : KeyKind) → seen_told t ≡ spoiled key → t ≡ told.Spoiled key
     told_spoiled (told.Spoiled k) key is = cc
     told_spoiled t key is = absurd (cc)
+
+    pub stopped_unspoiled : (e : SetupError) → IsTold log e → IsUnspoiled log → IsUnspoiledEnd (end_of e)
+    stopped_unspoiled (setup.Refused n reply) h clean = refused_unspoiled n (seen_reply reply) (refuses log n reply h)
+    stopped_unspoiled (setup.Sealed n) h clean = tt
+    stopped_unspoiled setup.Fault h clean = tt
+    stopped_unspoiled (setup.Spoiled key) h clean = let t = h tt in absurd (clean t.0 t.1 key (told_spoiled t.0.reply key t.2))
+    stopped_unspoiled setup.OutOfMemory h clean = tt
 
     pub stopped_complete : (e : SetupError) → IsTold log e → ¬ (Rose m.origin_before m.origin_after) → IsUnspoiled log → IsComplete (end_of e)
     stopped_complete (setup.Refused n reply) h still clean = refused_complete n (seen_reply reply) (refuses log n reply h)

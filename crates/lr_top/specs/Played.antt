@@ -9,7 +9,9 @@ use Rattle.lr_roots.specs.Roots.{IsHomed}
 use Rattle.lr_rules.specs.Parts.{HasParts}
 use Rattle.lr_depot.specs.Machine.{LogEntry}
 use Rattle.lr_depot.specs.Owed.{IsOwed}
-use Rattle.lr_depot.specs.Depot.{Seen, IsStarted, IsEnded, first_state, state}
+use Rattle.lr_depot.specs.Depot.{Seen, IsStarted, IsEnded, LedTo, KeepsStore, first_state, state}
+use Rattle.lr_depot.specs.Store.{LeadsTo}
+use Rattle.lr_images.specs.Answered.{IsUnspoiled}
 use Rattle.lr_seal.specs.Made.{HaveDistinctDigests}
 use Rattle.lr_history.specs.Run.{DeviceLine}
 use Rattle.lr_history.specs.Strings.{strings_of}
@@ -19,7 +21,7 @@ use Rattle.lr_actors.specs.declared.place.Parts.{Parts}
 use Rattle.lr_actors.specs.declared.place.Context.{Context}
 use Rattle.lr_prepare.specs.Prepared.{IsPrepared}
 use Rattle.lr_headline.specs.Closing.{Closing, run_of}
-use Rattle.lr_headline.specs.Headline.{bare, Follows}
+use Rattle.lr_headline.specs.Headline.{bare, Follows, FindNothingSpoiled}
 use Rattle.lr_play.specs.Played.{closing_of, IsPlayed}
 use Rattle.lr_report.specs.declared.run.Run.{Run}
 use Rattle.lr_report.specs.declared.run.OpenDevice.{OpenDevice}
@@ -63,11 +65,16 @@ left_of objects faults before after run p = closing_of run.script p.from.prepare
 -- The headline. Where the store told its objects, and each of its chunks had its length and digest at the start: each device's answered
 -- calls form one legal history of a plain block device opened on its image's bytes, each call once and in the order of its caller, and a
 -- call fails only with a failed fetch of its own, if digests tell the strings of the run apart. Whatever the store holds: the same on every
--- base that agrees with the pieces used; chunks are fetched on demand. After each call of the depot every live root is complete and every
--- owed image has a home.
+-- base that agrees with the pieces used; chunks are fetched on demand. After each call of the depot, by its view and in the store where it
+-- told its objects, every live root is complete and every owed image has a home.
 pub record Headline {O : Type 0} (objects : O → Option Objects) (faults : O → ℕ) (before after : O) (run : Run) (p : HasPlayed objects faults before after run) : Type 0 where
   pub served : Told (objects before) (λ m. HasChunks m → (n : Objects) × (objects after ≡ Some n)
       × (HaveDistinctDigests (strings_of (run_of (left_of objects faults before after run p) m n)) → Serves (run_of (left_of objects faults before after run p) m n)))
   pub follows : Follows (bare (left_of objects faults before after run p))
   pub complete : (front rest : List LogEntry) → run.depot.log ≡ front ++ rest
       → HasParts (state p.first.start front) × ((image : List ℕ) → IsOwed (first_state p.first.start) front image → IsHomed (state p.first.start front).known.view image)
+  -- so it is in the store: the log leads through objects that are one way out of the doubts of that moment
+  pub stored : Told (objects before) (λ m. (front rest : List LogEntry) → run.depot.log ≡ front ++ rest
+      → (k : Objects) × (n : Objects) × LedTo p.first.start m front k × LeadsTo (state p.first.start front) k rest n × (objects after ≡ Some n) × KeepsStore p.first.start front k)
+  -- no call of the depot, whosever it is, finds a key spoiled in a store that was sound, and no job ends with one
+  pub unspoiled : Told (objects before) (λ m. HasChunks m → IsUnspoiled run.depot.log × FindNothingSpoiled (left_of objects faults before after run p))

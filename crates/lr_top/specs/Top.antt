@@ -7,7 +7,7 @@ use Rattle.lr_roots.specs.Names.{IsOneOf}
 use Rattle.lr_roots.specs.Catalog.{Seen as Catalog}
 use Rattle.lr_opening.specs.Cause.{IsRead}
 use Rattle.lr_opening.specs.Listing.{HasFewer, HasMany}
-use Rattle.lr_opening.specs.Store.{IsForeignKey, IsSoundStore}
+use Rattle.lr_opening.specs.Store.{IsForeignKey, HasChunks, IsSoundStore}
 use Rattle.lr_depot.specs.Machine.{LogEntry}
 use Rattle.lr_depot.specs.Left.{Left}
 use Rattle.lr_depot.specs.Depot.{Seen, IsStarted, IsEnded}
@@ -176,6 +176,11 @@ IsManyEnd (By Memory) = ⊤
 IsManyEnd (OutsideAt n) = ⊤
 IsManyEnd end = ⊥
 
+-- not for a spoiled key
+abbrev pub IsUnspoiledEnd : PlayEnd → Type 0
+IsUnspoiledEnd (By (Spoiled key)) = ⊥
+IsUnspoiledEnd end = ⊤
+
 -- done, a line refused, or no memory
 abbrev pub IsComplete : PlayEnd → Type 0
 IsComplete (By Done) = ⊤
@@ -190,11 +195,12 @@ Completes m end =
     → Told m.source (λ xs. (script : ScriptSeen) → Spells xs script → Told m.objects (λ os. IsSoundStore os → HasFewer os (2 ^ 32) → IsComplete end))
 
 -- Where an end must come: a foreign key, too many keys, or a script and a store with which nothing is wrong. Before that the reading may
--- end, and while a store is opened it may fail or memory may want.
+-- end, and while a store is opened it may fail or memory may want. Over a store whose chunks have their length and digest no key is spoiled.
 pub record IsExact (m : Met) (end : PlayEnd) : Type 0 where
   pub foreign : Told m.objects (λ os. (key : List ℕ) → IsForeignKey os key → HasFewer os (2 ^ 32) → IsForeignEnd os end)
   pub many : Told m.objects (λ os. HasMany os (2 ^ 32) → IsManyEnd end)
   pub complete : Completes m end
+  pub unspoiled : Told m.objects (λ os. HasChunks os → IsUnspoiledEnd end)
 
 -- The answer to what was met: an end with its status and line, its cause, what it leaves, and where it must come.
 pub record IsPlayedAs {O : Type 0} (objects : O → Option Objects) (faults : O → ℕ) (before after : O) (reads : ScriptSeen → Type 0) (m : Met) (left : RunRecord) (status : ℕ) (line : List ℕ) : Type 0 where

@@ -2,8 +2,9 @@
 ghost use Rattle.lr_report.specs.declared.run.Run.{Run as AnyRun};
 ghost use Rattle.lr_top.specs.Played.{HasPlayed, Headline};
 
-use lr_depot::calls_keep_the_promise;
-use lr_headline::{runs_follow, runs_serve};
+use lr_depot::{calls_keep_the_promise, logs_can_be_cut};
+use lr_headline::{runs_find_nothing_spoiled, runs_follow, runs_serve};
+use lr_images::answers_are_told;
 use lr_origin::Origin;
 
 /// The headline holds of whatever was played over a store.
@@ -12,5 +13,8 @@ pub fn plays_have_the_headline<O: Origin>()
 {
     runs_serve();
     runs_follow();
+    runs_find_nothing_spoiled();
     calls_keep_the_promise();
+    logs_can_be_cut();
+    answers_are_told();
 }

@@ -1,5 +1,6 @@
 use Rattle.std.specs.FinMap as map
 use Rattle.lr_headline.specs.Headline.{bare}
+use Rattle.lr_headline.proofs.Wholes.{are_apart}
 use Rattle.lr_headline.proofs.laws.runs_follow.Goals as goal
 
 pub returns : goal.returns
@@ -17,5 +18,5 @@ returns c k is =
       order = c.calls_are_answered_once.ensures.order run trails;
       loads = c.chunks_are_fetched_on_demand.ensures.loads run trails;
       demanded = c.chunks_are_fetched_on_demand.ensures.demanded run trails devices;
-      claims = λ apart host s names room free nobody x. c.fetches_are_few.ensures.uncrashed run host s names trails devices caches apart room free nobody x;
+      claims = λ host s names room free nobody x. c.fetches_are_few.ensures.uncrashed run host s names trails devices caches (are_apart k map.empty map.empty is) room free nobody x;
     }

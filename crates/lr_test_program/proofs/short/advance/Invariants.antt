@@ -1,7 +1,7 @@
 use Rattle.std.proofs.Common.{◌≡◌, ℕ}
 use Rattle.lr_walk.specs.Jobs.{Context}
 use Rattle.lr_world.specs.World.{seen, cast_of, IsWorld}
-use Rattle.lr_play.proofs.short.advance.Given as goal
+use Rattle.lr_test_program.proofs.short.advance.Given as goal
 
 abbrev pub invariant-loop : goal.invariant-loop
 invariant-loop l = record {
