@@ -41,7 +41,7 @@ use Rattle.lr_desk.specs.Alone.{ComesAlone, AreAlone, CommandsComeAlone}
 use Rattle.lr_desk.specs.Words.{AreWords, IsCommand, words_of}
 use Rattle.lr_desk.specs.Outcome.{status_of, line_of}
 use Rattle.lr_desk.specs.Ends.{outcome_of, Setting, setting, HasWalked, IsWritten, IsFinish, HasRun, IsWalkOutcome}
-use Rattle.lr_desk.specs.Causes.{Met, IsDepots, Tells, IsTooLong, Refuses, Comes, cause_of, IsForeignEnd, IsManyEnd, IsExact, IsComplete, Completes, IsAnswered, HasCommanded}
+use Rattle.lr_desk.specs.Causes.{Met, IsDepots, Tells, IsTooLong, Refuses, Comes, cause_of, IsForeignEnd, IsManyEnd, IsUnspoiledEnd, IsExact, IsComplete, Completes, IsAnswered, HasCommanded}
 use Rattle.lr_desk.specs.Made.{CreationsLeaveImages, HasLeft}
 use Rattle.lr_desk.proofs.Walking.{walked_kind}
 use Rattle.lr_desk.proofs.Commanding.{walked_tells, walked_is}
@@ -132,6 +132,13 @@ module _ (m : Met) (c : StartCause) (is : IsCause m.objects m.origin_before m.or
   cause_complete cause.TooMany h words still source sink os t sound few = absurd (fewer_not_many os (2 ^ 32) few (h os t))
   cause_complete cause.OutOfMemory h words still source sink os t sound few = tt
 
+  cause_unspoiled : (c : StartCause) → IsCause m.objects m.origin_before m.origin_after c → Told m.objects (λ os. HasChunks os → IsUnspoiledEnd (cause_of c))
+  cause_unspoiled (cause.Fault k) h os t chunks = tt
+  cause_unspoiled (cause.Spoiled k) h os t chunks = absurd (h.1 os t)
+  cause_unspoiled (cause.Foreign q) h os t chunks = tt
+  cause_unspoiled cause.TooMany h os t chunks = tt
+  cause_unspoiled cause.OutOfMemory h os t chunks = tt
+
   pub answered_by_cause : (status : ℕ) (line : List ℕ) → m.log ≡ [] → AreWords m.words → status ≡ status_of (cause_of c) → line ≡ line_of (cause_of c) → IsAnswered m status line
   answered_by_cause status line none words gave says = record {
     outcome = cause_of c;
@@ -143,6 +150,7 @@ module _ (m : Met) (c : StartCause) (is : IsCause m.objects m.origin_before m.or
       told = λ x b t. absurd (no_entries x (subst (λ l. Tells l x) none t));
       foreign = λ _. cause_foreign c is;
       many = λ _. cause_many c is;
+      unspoiled = cause_unspoiled c is;
     };
     complete = cause_complete c is;
   }
@@ -166,6 +174,7 @@ answered_usage m status line none not gave says = record {
     told = λ x b t. absurd (no_entries x (subst (λ l. Tells l x) none t));
     foreign = λ words. absurd (not words);
     many = λ words. absurd (not words);
+    unspoiled = λ os t chunks. tt;
   };
   complete = λ words. absurd (not words);
 }
@@ -276,6 +285,13 @@ module _ (m : Met) (c : Command) (s : Setting) (before after : Option (List ℕ)
   run_complete start (Foreign q) begun same leads ran k origin source sink words still unread quiet os t sound few = absurd k
   run_complete start TooMany begun same leads ran k origin source sink words still unread quiet os t sound few = absurd k
 
+  run_unspoiled : (start : Start) (e : Outcome) → IsStart start → start.objects ≡ m.objects → Told start.objects (λ os. (n : Objects) × LeadsTo (first_state start) os m.log n) → HasRun c s m.log before after e
+      → Told m.objects (λ os. HasChunks os → IsUnspoiledEnd e)
+  run_unspoiled start (Spoiled key) begun same leads ran os t chunks =
+      let l = leads os (same ∙ t) in
+      never_told start os m.log l.0 begun (begun.mirrors os (same ∙ t)) chunks l.1 key (run_tells (Spoiled key) ran tt)
+  run_unspoiled start e begun same leads ran os t chunks = tt
+
   pub answered_by_run : (start : Start) (status : ℕ) (line : List ℕ) (e : Outcome) → IsCommand c → m.words ≡ words_of c → s.source ≡ m.source → IsStart start → start.objects ≡ m.objects
       → Told m.objects (λ os. HasFewer os (2 ^ 32)) → Told start.objects (λ os. (n : Objects) × LeadsTo (first_state start) os m.log n)
       → HasRun c s m.log before after e → (e ≡ OriginFault → Rose m.origin_before m.origin_after) → (e ≡ ReadFault → Rose m.source_before m.source_after) → (e ≡ WriteFault → Rose m.sink_before m.sink_after)
@@ -295,6 +311,7 @@ module _ (m : Met) (c : Command) (s : Setting) (before after : Option (List ℕ)
               finish_from ran.0 e ran.1 before after ran.3 (subst IsDepots (sym o) b) ∙ o;
           foreign = λ _ os t key foreign fewer. absurd (sound_store_is_not_foreign os start.view (begun.mirrors os (same ∙ t)) begun.may.sound key foreign);
           many = λ _ os t many. absurd (fewer_not_many os (2 ^ 32) (few os t) many);
+          unspoiled = run_unspoiled start e begun same leads ran;
         };
         complete = run_complete start e begun same leads ran k origin source sink;
       }

@@ -8,7 +8,7 @@ use Rattle.lr_opening.specs.declared.cause.StartCause.{StartCause}
 use Rattle.lr_opening.specs.declared.cause.StartCause.TheVariants as cause
 use Rattle.lr_opening.specs.Cause.{IsRead, IsCause}
 use Rattle.lr_opening.specs.Listing.{HasFewer, HasMany}
-use Rattle.lr_opening.specs.Store.{IsForeignKey, IsSoundStore}
+use Rattle.lr_opening.specs.Store.{IsForeignKey, HasChunks, IsSoundStore}
 use Rattle.lr_roots.specs.Catalog.{Seen as Catalog}
 use Rattle.lr_depot.specs.Machine.{LogEntry}
 use Rattle.lr_depot.specs.Left.{Left}
@@ -120,13 +120,19 @@ IsManyEnd Memory = ⊤
 IsManyEnd OriginFault = ⊤
 IsManyEnd o = ⊥
 
+-- not for a spoiled key
+abbrev pub IsUnspoiledEnd : Outcome → Type 0
+IsUnspoiledEnd (Spoiled key) = ⊥
+IsUnspoiledEnd o = ⊤
+
 -- Where an outcome must come: wrong words, what an entry of the log tells of, a foreign key, too many keys. While a store is
--- opened, it may fail or memory may want first.
+-- opened, it may fail or memory may want first. Over a store whose chunks have their length and digest no key is spoiled.
 pub record IsExact (m : Met) (o : Outcome) : Type 0 where
   pub usage : ¬ (AreWords m.words) → o ≡ Usage
   pub told : (e : Outcome) → IsDepots e → Tells m.log e → o ≡ e
   pub foreign : AreWords m.words → Told m.objects (λ os. (key : List ℕ) → IsForeignKey os key → HasFewer os (2 ^ 32) → IsForeignEnd os o)
   pub many : AreWords m.words → Told m.objects (λ os. HasMany os (2 ^ 32) → IsManyEnd o)
+  pub unspoiled : Told m.objects (λ os. HasChunks os → IsUnspoiledEnd o)
 
 -- done, refused, or no memory
 abbrev pub IsComplete : Outcome → Type 0
