@@ -7,7 +7,7 @@ ghost use Rattle.lr_desk.specs.declared.outcome.Outcome.TheVariants as outcome;
 ghost use Rattle.lr_desk.specs.declared.words.Command.TheVariants as command;
 ghost use Rattle.lr_desk.specs.Outcome.{status_of, line_of};
 ghost use Rattle.lr_desk.specs.Causes.{cause_of, IsAnswered, IsUnstarted, HasCommanded};
-ghost use Rattle.lr_desk.specs.Words.{AreOfCreation, words_of};
+ghost use Rattle.lr_desk.specs.Words.{AreWords, AreOfCreation, words_of};
 ghost use Rattle.lr_desk.specs.Alone.{AreAlone};
 ghost use Rattle.lr_desk.specs.Ends.{Collected, Moved, Made, WasRead, setting, HasWalked, HasRun, Yields, IsWritten};
 
@@ -259,6 +259,8 @@ pub fn commands<O: Origin, I: Source, W: Sink>(
     ensures unstarted { result.started ≡ false → (result.log.log ≡ []) × (O.objects result.origin ≡ O.objects origin) × (sink.new ≡ sink.old) × (source.new ≡ source.old) × (result.status ≢ 0) × (result.status ≢ 5) }
     ensures why { result.started ≡ false → IsUnstarted (map string_bytes words.now) (O.objects origin) (O.faults origin) (O.faults result.origin) result.status }
     ensures unread { ¬ (AreOfCreation (map string_bytes words.now)) → source.new ≡ source.old }
+    // Wrong words make no call on the store: it is handed back as it came.
+    ensures untouched { ¬ (AreWords (map string_bytes words.now)) → result.origin ≡ origin }
     ensures never_falls { O.faults origin ≤ O.faults result.origin }
     ensures source_never_falls { I.faults source.old ≤ I.faults source.new }
 {

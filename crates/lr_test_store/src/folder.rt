@@ -49,9 +49,9 @@ const OBJECTS: &[(&[u8], &[u8])] = &[
 // Keys that are deleted, the first of them from what was put.
 const ABSENT: &[&[u8]] = &[b"a.c", b"a.c", b"a/none", b"none/b", b"a0/b"];
 
-// Keys of a folder, of a link, and of no path.
+// Keys of a folder, of a link, of a file in a linked folder, and of no path.
 const NO_FILES: &[&[u8]] = &[
-    b"inner", b"link", b"", b"/a", b"a/", b"a//b", b"..", b"a/../b", b"./a", b".tmp", b".tmp/a",
+    b"inner", b"link", b"other/a", b"", b"/a", b"a/", b"a//b", b"..", b"a/../b", b"./a", b".tmp", b".tmp/a",
     b"a\0b", b"a\xff",
 ];
 
@@ -146,6 +146,9 @@ fn other_things_are_failures(rt: HostRuntime) -> Result<(), Fail> {
     fs::create_dir(&rt, "refused/store")?;
     fs::create_dir(&rt, "refused/store/inner")?;
     symlink(&rt, "../file", "refused/store/link")?;
+    fs::create_dir(&rt, "refused/other")?;
+    fs::write(&rt, "refused/other/a", "one")?;
+    symlink(&rt, "../other", "refused/store/other")?;
     let mut folder = store(&rt, "refused/store")?;
     for key in NO_FILES {
         assert!(rt; folder.get(alloc, key).is_err());
@@ -154,7 +157,14 @@ fn other_things_are_failures(rt: HostRuntime) -> Result<(), Fail> {
     }
     assert!(rt; folder.next_key(alloc, None).is_err());
     fs::remove_file(&rt, "refused/store/link")?;
+    assert!(rt; folder.next_key(alloc, None).is_err());
+    fs::remove_file(&rt, "refused/store/other")?;
     assert!(rt; folder.put(alloc, b"a", b"").is_ok());
+    assert!(rt; is_listed_as(alloc, &mut folder, b"a ")?);
+    fs::create_dir(&rt, "refused/store/.tmp")?;
+    assert!(rt; folder.put(alloc, b"b", b"").is_err());
+    assert!(rt; folder.next_key(alloc, None).is_err());
+    fs::remove_dir(&rt, "refused/store/.tmp")?;
     assert!(rt; is_listed_as(alloc, &mut folder, b"a ")?);
     assert!(rt; folder.put(alloc, b"..", b"").is_err());
     assert!(rt; is_listed_as(alloc, &mut folder, b"a ")?);

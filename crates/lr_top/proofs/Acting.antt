@@ -38,7 +38,7 @@ use Rattle.lr_top.specs.Input.{IfOutside}
 use Rattle.lr_top.specs.Top.{IsOutsideAt, MatchRun, IfRun, IfCommand, Met, unread_end, end_of, Comes, StoppedFrom, IsPlayEnd, Leaves, IsUnspoiledEnd, IsComplete, Completes, IsExact, IsPlayedAs}
 use Rattle.lr_top.specs.Played.{PlayedFrom, HasPlayed, Headline}
 use Rattle.lr_top.specs.Acts.{Sunk, ActsFrom, EndsFrom}
-use Rattle.lr_top.proofs.Meeting.{unread_comes, unread_exact, unread_unbegun, cause_comes, cause_exact, cause_unbegun, stopped_comes, stopped_unspoiled, stopped_complete, stopped_status}
+use Rattle.lr_top.proofs.Meeting.{unread_comes, unread_exact, unread_unbegun, cause_comes, cause_exact, cause_unbegun, stopped_comes, stopped_unspoiled, stopped_complete, stopped_status, IsOther, is_other, stopped_other}
 use Rattle.lr_top.proofs.Reported.{whole_front}
 
 -- ---- no depot was started
@@ -83,6 +83,12 @@ written_ends sunk (Refused why) text w = absurd w
 written_ends sunk (Foreign key) text w = absurd w
 written_ends sunk (Spoiled key) text w = absurd w
 written_ends sunk TooMany text w = absurd w
+
+written_other : (sunk : Sunk) (o : Outcome) (text : List ℕ) → Written sunk o text → IsOther (status_of (By o))
+written_other sunk Done text w = ((λ e. absurd (omega (arith, e))), (λ e. absurd (omega (arith, e))))
+written_other sunk WriteFault text w = ((λ e. absurd (omega (arith, e))), (λ e. absurd (omega (arith, e))))
+written_other sunk Memory text w = ((λ e. absurd (omega (arith, e))), (λ e. absurd (omega (arith, e))))
+written_other sunk o text w = absurd w
 
 written_all : (sunk : Sunk) (o : Outcome) (text : List ℕ) → Written sunk o text → status_of (By o) ≡ 0 → Appends sunk.written_before text sunk.written_after
 written_all sunk Done text w z = w
@@ -236,3 +242,11 @@ module _ {O : Type 0} (objects : O → Option Objects) (faults : O → ℕ) (fir
       let is : status ≡ status_of (end_of s.error) = gave ∙ ap status_of s.tells in
       ((λ z. n.0 (sym is ∙ z)), (λ z. n.1 (sym is ∙ z)), kept)
   ends_stopped (record_of.Run run) status line e = tt
+
+  -- and its script was read
+  pub ends_other : (r : RunRecord) (status : ℕ) (line : List ℕ) → EndsFrom objects faults first script sunk after r status line → IsOther status
+  ends_other record_of.Nothing status line e = absurd e.3
+  ends_other (record_of.Command left) status line (end, gave, says, (s, kept)) =
+      is_other status (status_of (end_of s.error)) (gave ∙ ap status_of s.tells) (stopped_other left.log s.error s.told)
+  ends_other (record_of.Run run) status line (end, gave, says, (played, same, (outcome, is, written, rose))) =
+      is_other status (status_of (By outcome)) (gave ∙ ap status_of is) (written_other sunk outcome (report_text run) written)

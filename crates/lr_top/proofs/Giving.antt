@@ -1,5 +1,5 @@
 -- what the top call gives back, put together
-use Rattle.std.proofs.Common.{◌≡◌, ◌≢◌, ℕ, List, Option, sym, subst, arith}
+use Rattle.std.proofs.Common.{◌≡◌, ◌≢◌, ◌+◌, ℕ, List, Option, sym, subst, inr, arith}
 use Rattle.std.specs.Prelude.{◌⊎◌, ⊤}
 use Rattle.lr_spec.specs.Told.{Told}
 use Rattle.lr_io.specs.Streams.{Appends, AppendsFront}
@@ -8,6 +8,7 @@ use Rattle.lr_opening.specs.declared.cause.StartCause.{StartCause}
 use Rattle.lr_opening.specs.declared.cause.StartCause.TheVariants as cause
 use Rattle.lr_depot.specs.Depot.{Seen, IsStarted}
 use Rattle.lr_images.specs.Answered.{SoundStoresAreUnspoiled}
+use Rattle.lr_script.specs.Limits.{bytes_most}
 use Rattle.lr_script.specs.Seen.{ScriptSeen}
 use Rattle.lr_script.specs.Grammar.{FirstOutside}
 use Rattle.lr_desk.specs.Causes.{cause_of}
@@ -17,11 +18,11 @@ use Rattle.lr_top.specs.declared.outcome.RunRecord.{RunRecord}
 use Rattle.lr_top.specs.declared.outcome.RunRecord.TheVariants as record_of
 use Rattle.lr_top.specs.declared.ends.PlayEnd.TheVariants.{By}
 use Rattle.lr_top.specs.Ends.{status_of}
-use Rattle.lr_top.specs.Top.{IsReadAs, HasNoLineOutside, MatchRun, IfRun, IfCommand, Met, IsPlayedAs}
+use Rattle.lr_top.specs.Top.{IsReadAs, TakesUpTo, HasNoLineOutside, MatchRun, IfRun, IfCommand, Met, IsPlayedAs}
 use Rattle.lr_top.specs.Played.{HasPlayed, Headline}
 use Rattle.lr_top.specs.Acts.{EndsFrom}
-use Rattle.lr_top.specs.Gives.{Streams, WritesNothing, Plays}
-use Rattle.lr_top.proofs.Acting.{ends_played, ends_script, ends_served, ends_reported, ends_front, ends_started, ends_stopped}
+use Rattle.lr_top.specs.Gives.{Streams, WritesNothing, ScriptWasRead, Plays}
+use Rattle.lr_top.proofs.Acting.{ends_played, ends_script, ends_served, ends_reported, ends_front, ends_started, ends_stopped, ends_other}
 
 -- a store that wasn't opened ends a command neither with status 0 nor with 5
 pub cause_status : (c : StartCause) → (status_of (By (cause_of c)) ≢ 0) × (status_of (By (cause_of c)) ≢ 5)
@@ -53,8 +54,8 @@ module _ {O : Type 0} (objects : O → Option Objects) (faults : O → ℕ) (bef
     if_command P = subst (λ (q : RunRecord). IfCommand q P) (sym none) tt
 
     pub nothing_plays : IsPlayedAs objects faults before after (λ script. IsReadAs s.left_before script s.left_after) met left status line → Told s.left_before (λ xs. (n : ℕ) → FirstOutside xs n → (status ≡ 3) ⊎ ((status ≡ 4) ⊎ (status ≡ 7)))
-        → WritesNothing s.sunk status → objects after ≡ objects before → Plays objects faults before after s left status line
-    nothing_plays answered only nothing same = record {
+        → WritesNothing s.sunk status → objects after ≡ objects before → (after ≡ before) ⊎ ScriptWasRead s status → (status ≡ 3 → TakesUpTo s.left_before (bytes_most + 1) s.left_after) → Plays objects faults before after s left status line
+    nothing_plays answered only nothing same untouched bounded = record {
       answered = answered;
       only = only;
       script = if_run (λ run. IsReadAs s.left_before run.script s.left_after);
@@ -64,6 +65,8 @@ module _ {O : Type 0} (objects : O → Option Objects) (faults : O → ℕ) (bef
       unstarted = subst (λ (q : RunRecord). MatchRun q (WritesNothing s.sunk status) (λ _. ⊤)) (sym none) nothing;
       stopped = if_command (λ _. WritesNothing s.sunk status);
       kept = subst (λ (q : RunRecord). MatchRun q (objects after ≡ objects before) (λ _. ⊤)) (sym none) same;
+      untouched = untouched;
+      bounded = bounded;
     }
 
   -- a depot was started, and its script was read
@@ -79,4 +82,6 @@ module _ {O : Type 0} (objects : O → Option Objects) (faults : O → ℕ) (bef
     unstarted = ends_started objects faults first script s.sunk after left status line (WritesNothing s.sunk status) ends;
     stopped = ends_stopped objects faults first script s.sunk after left status line ends;
     kept = ends_started objects faults first script s.sunk after left status line (objects after ≡ objects before) ends;
+    untouched = let other = ends_other objects faults first script s.sunk after left status line ends in inr (record { script = script; read = read; inside = other.0; whole = other.1 });
+    bounded = λ three. absurd ((ends_other objects faults first script s.sunk after left status line ends).0 three);
   }

@@ -229,3 +229,32 @@ pub unread_known : (e : InputError) → (status_of (unread_end e) ≡ 3) ⊎ ((s
 unread_known (input.Outside n) = inl refl
 unread_known input.Failed = inr (inl refl)
 unread_known input.OutOfMemory = inr (inr refl)
+
+-- ---- statuses of plays whose script was read
+
+-- neither the status of a line outside nor that of a source that failed
+abbrev pub IsOther : ℕ → Type 0
+IsOther n = (n ≢ 3) × (n ≢ 4)
+
+pub is_other : (n k : ℕ) → n ≡ k → IsOther k → IsOther n
+is_other n k e other = ((λ z. other.0 (sym e ∙ z)), (λ z. other.1 (sym e ∙ z)))
+
+pub cause_other : (c : StartCause) → IsOther (status_of (By (cause_of c)))
+cause_other (cause.Fault key) = ((λ e. absurd (omega (arith, e))), (λ e. absurd (omega (arith, e))))
+cause_other (cause.Spoiled key) = ((λ e. absurd (omega (arith, e))), (λ e. absurd (omega (arith, e))))
+cause_other (cause.Foreign key) = ((λ e. absurd (omega (arith, e))), (λ e. absurd (omega (arith, e))))
+cause_other cause.TooMany = ((λ e. absurd (omega (arith, e))), (λ e. absurd (omega (arith, e))))
+cause_other cause.OutOfMemory = ((λ e. absurd (omega (arith, e))), (λ e. absurd (omega (arith, e))))
+
+pub stopped_other : (log : List LogEntry) (e : SetupError) → IsTold log e → IsOther (status_of (end_of e))
+stopped_other log (setup.Refused n reply) h = is_other (status_of (at_line n (failure (outcome_of (seen_reply reply))))) 8 (refused_status n (seen_reply reply) (refuses log n reply h)) ((λ e. absurd (omega (arith, e))), (λ e. absurd (omega (arith, e))))
+stopped_other log (setup.Sealed n) h = ((λ e. absurd (omega (arith, e))), (λ e. absurd (omega (arith, e))))
+stopped_other log setup.Fault h = ((λ e. absurd (omega (arith, e))), (λ e. absurd (omega (arith, e))))
+stopped_other log (setup.Spoiled key) h = ((λ e. absurd (omega (arith, e))), (λ e. absurd (omega (arith, e))))
+stopped_other log setup.OutOfMemory h = ((λ e. absurd (omega (arith, e))), (λ e. absurd (omega (arith, e))))
+
+-- what holds of a line outside holds where the status is that of one
+pub of_outside : (e : InputError) (P : Type 0) → IfOutside e (λ _. P) → status_of (unread_end e) ≡ 3 → P
+of_outside (input.Outside n) P p three = p
+of_outside input.Failed P p three = absurd (omega (arith, three))
+of_outside input.OutOfMemory P p three = absurd (omega (arith, three))

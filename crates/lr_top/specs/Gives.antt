@@ -1,14 +1,17 @@
 -- What the top call gives back: of a play, and of another command.
-use Rattle.std.specs.Prelude.{◌≡◌, ◌≢◌, ◌⊎◌, ℕ, List, Option, ⊤}
+use Rattle.std.specs.Prelude.{◌≡◌, ◌≢◌, ◌⊎◌, ◌+◌, ℕ, List, Option, ⊤}
 use Rattle.lr_spec.specs.Told.{Told}
 use Rattle.lr_io.specs.Streams.{Appends, AppendsFront}
 use Rattle.lr_origin.specs.Objects.{Objects}
+use Rattle.lr_script.specs.Limits.{bytes_most}
+use Rattle.lr_script.specs.Seen.{ScriptSeen}
 use Rattle.lr_script.specs.Grammar.{FirstOutside}
+use Rattle.lr_desk.specs.Words.{AreWords}
 use Rattle.lr_desk.specs.Causes.{IsUnstarted, IsAnswered, HasCommanded}
 use Rattle.lr_report.specs.Report.{report_text}
 use Rattle.lr_top.specs.declared.outcome.RunRecord.{RunRecord}
 use Rattle.lr_top.specs.Played.{HasPlayed, Headline}
-use Rattle.lr_top.specs.Top.{IsReadAs, MatchRun, IfRun, IfCommand, log_of, IsPlayedAs}
+use Rattle.lr_top.specs.Top.{IsReadAs, TakesUpTo, MatchRun, IfRun, IfCommand, log_of, IsPlayedAs}
 use Rattle.lr_top.specs.Acts.{Sunk}
 
 -- what was left in a source, and its count of faults, and the same of a sink, before and after
@@ -32,11 +35,19 @@ streams left failed written faults source source_after sink sink_after = record 
 abbrev pub WritesNothing : Sunk → ℕ → Type 0
 WritesNothing sunk status = (status ≢ 0) × (status ≢ 5) × (sunk.written_after ≡ sunk.written_before)
 
+-- A script was read, and the status is neither that of a line outside nor that of a source that failed.
+pub record ScriptWasRead (s : Streams) (status : ℕ) : Type 0 where
+  pub script : ScriptSeen
+  pub read : IsReadAs s.left_before script s.left_after
+  pub inside : status ≢ 3
+  pub whole : status ≢ 4
+
 -- A play over a store, with what it left there, its record, status and line.
 --
 -- How it ended and why, and the first line outside the grammar exactly where there is one. Where the actors were begun, the record is the
 -- run of the script that was read, the run has the headline, and its report was written, or a front of it. Else nothing was written, and
--- without a depot the store's objects are as they were.
+-- without a depot the store's objects are as they were. Where no script was read the store itself is as it was; of a text that is refused at
+-- most one byte past the limit of a script was taken.
 pub record Plays {O : Type 0} (objects : O → Option Objects) (faults : O → ℕ) (before after : O) (s : Streams) (left : RunRecord) (status : ℕ) (line : List ℕ) : Type 0 where
   pub answered : IsPlayedAs objects faults before after (λ script. IsReadAs s.left_before script s.left_after)
       (record { objects = objects before; source = s.left_before; origin_before = faults before; origin_after = faults after; source_before = s.failed_before; source_after = s.failed_after; sink_before = s.sunk.faults_before; sink_after = s.sunk.faults_after })
@@ -49,9 +60,11 @@ pub record Plays {O : Type 0} (objects : O → Option Objects) (faults : O → �
   pub unstarted : MatchRun left (WritesNothing s.sunk status) (λ _. ⊤)
   pub stopped : IfCommand left (λ _. WritesNothing s.sunk status)
   pub kept : MatchRun left (objects after ≡ objects before) (λ _. ⊤)
+  pub untouched : (after ≡ before) ⊎ ScriptWasRead s status
+  pub bounded : status ≡ 3 → TakesUpTo s.left_before (bytes_most + 1) s.left_after
 
 -- A command other than a play over a store. It has no run; the record is the depot's log where one was started. Without a depot the words
--- are no command's, or the store wasn't opened, and its objects are as they were.
+-- are no command's, or the store wasn't opened, and its objects are as they were. Words that are no command's leave the store itself.
 pub record Commands {O : Type 0} (objects : O → Option Objects) (faults : O → ℕ) (before after : O) (s : Streams) (words : List (List ℕ)) (left : RunRecord) (status : ℕ) (line : List ℕ) : Type 0 where
   pub answered : IsAnswered
       (record { words = words; objects = objects before; source = s.left_before; origin_before = faults before; origin_after = faults after; source_before = s.failed_before; source_after = s.failed_after; sink_before = s.sunk.faults_before; sink_after = s.sunk.faults_after; log = log_of left })
@@ -60,3 +73,4 @@ pub record Commands {O : Type 0} (objects : O → Option Objects) (faults : O �
   pub recorded : MatchRun left (WritesNothing s.sunk status) (λ _. ⊥)
   pub why : MatchRun left (IsUnstarted words (objects before) (faults before) (faults after) status) (λ _. ⊤)
   pub kept : MatchRun left (objects after ≡ objects before) (λ _. ⊤)
+  pub untouched : ¬ (AreWords words) → after ≡ before

@@ -1,7 +1,8 @@
 -- What the top call answers.
-use Rattle.std.specs.Prelude.{◌≡◌, ◌⊎◌, ℕ, ◌^◌, List, [], Option, Some, ⊤}
+use Rattle.std.specs.Prelude.{◌≡◌, ◌⊎◌, ◌≤◌, ℕ, ◌^◌, List, [], length, Option, Some, ⊤}
 use Rattle.lr_spec.specs.Rose.{Rose}
 use Rattle.lr_spec.specs.Told.{Told}
+use Rattle.lr_io.specs.Streams.{Takes}
 use Rattle.lr_origin.specs.Objects.{Objects}
 use Rattle.lr_roots.specs.Names.{IsOneOf}
 use Rattle.lr_roots.specs.Catalog.{Seen as Catalog}
@@ -36,6 +37,10 @@ use Rattle.lr_top.specs.Ends.{status_of, line_of}
 -- All that was left spells this script, and nothing is left.
 abbrev pub IsReadAs : Option (List ℕ) → ScriptSeen → Option (List ℕ) → Type 0
 IsReadAs left script left_after = Told left (λ xs. Spells xs script × (left_after ≡ Some []))
+
+-- At most this many bytes were taken from the front of what was left.
+abbrev pub TakesUpTo : Option (List ℕ) → ℕ → Option (List ℕ) → Type 0
+TakesUpTo left most left_after = (bytes : List ℕ) × (length bytes ≤ most) × Takes left bytes left_after
 
 -- Line n of what is left is the first outside the grammar.
 abbrev pub IsOutsideAt : Option (List ℕ) → ℕ → Type 0

@@ -1,8 +1,9 @@
 //! A script read from a source.
-ghost use Rattle.std.specs.Prelude.{◌≡◌, ◌<◌, ◌≤◌, ℕ, IfOk, IfErr, IsErrOf, Option, List};
+ghost use Rattle.std.specs.Prelude.{◌≡◌, ◌<◌, ◌≤◌, ◌+◌, ℕ, IfOk, IfErr, IsErrOf, Option, List};
 ghost use Rattle.lr_spec.specs.Rose.{Rose};
+ghost use Rattle.lr_script.specs.Limits.{bytes_most};
 ghost use Rattle.lr_script.specs.Within.{IsWithin};
-ghost use Rattle.lr_top.specs.Top.{IsReadAs, IsOutsideAt, HasNoLineOutside};
+ghost use Rattle.lr_top.specs.Top.{IsReadAs, TakesUpTo, IsOutsideAt, HasNoLineOutside};
 ghost use Rattle.lr_top.specs.Input.{IfOutside};
 
 use lr_io::{ReadError, Source, read_up_to};
@@ -25,6 +26,7 @@ pub fn read_script<I: Source>(alloc: Global, source: &mut I) -> Result<Script, I
     ensures outside { IfErr result (λ e. IfOutside e (λ n. IsOutsideAt (I.left source.old) n)) }
     ensures only { IfOk result (λ _. HasNoLineOutside (I.left source.old)) }
     ensures within { IfOk result (λ script. IsWithin script) }
+    ensures bounded { IfErr result (λ e. IfOutside e (λ _. TakesUpTo (I.left source.old) (bytes_most + 1) (I.left source.new))) }
     ensures cause { IsErrOf result InputError.Failed → Rose (I.faults source.old) (I.faults source.new) }
 {
     let text = match read_up_to(alloc, source, BYTES_MOST as usize) {

@@ -79,3 +79,12 @@ returns-in-Err-clause-why g c = λ _.
 
 pub returns-clause-unread : goal.returns-clause-unread
 returns-clause-unread g c = λ other. c.run-outcome.ensures.unread (λ are. other (are.0, are.1, c.in-Some.ensures.found.1 ∙ are.2))
+
+pub returns-in_default-clause-untouched : goal.returns-in_default-clause-untouched
+returns-in_default-clause-untouched g c = λ wrong. c.unstarted.ensures.origin
+
+pub returns-in-Err-clause-untouched : goal.returns-in-Err-clause-untouched
+returns-in-Err-clause-untouched g c = λ wrong. absurd (wrong (c.in-Some.command, c.in-Some.ensures.found.0, c.in-Some.ensures.found.1))
+
+pub returns-clause-untouched : goal.returns-clause-untouched
+returns-clause-untouched g c = λ wrong. absurd (wrong (c.in-Some.command, c.in-Some.ensures.found.0, c.in-Some.ensures.found.1))

@@ -28,6 +28,7 @@ returns-clause-commands g c =
           (λ e. let u = d.ensures.unstarted e in (u.4, u.5, ap g.W.Sink.written u.2));
       why = run_or d.result.started c.recorded-run.result d.result.log _ c.recorded-run.ensures.started c.recorded-run.ensures.nothing d.ensures.why;
       kept = run_or d.result.started c.recorded-run.result d.result.log _ c.recorded-run.ensures.started c.recorded-run.ensures.nothing (λ e. (d.ensures.unstarted e).1);
+      untouched = d.ensures.untouched;
     }
 
 pub returns-clause-kept : goal.returns-clause-kept

@@ -9,3 +9,6 @@ returns-in-Ok-parse-clause-only g c = none_outside (g.I.Source.left c.args.sourc
 
 pub returns-in-Err-Line-clause-outside : goal.returns-in-Err-Line-clause-outside
 returns-in-Err-Line-clause-outside g c = is_outside (g.I.Source.left c.args.source.now) (g.I.Source.left c.read_up_to.new.source) c.deref.result.now c.in-Ok.text.items c.in-Err-Line.line c.deref.ensures.value c.in-Ok.ensures.takes c.in-Ok.ensures.whole (rw (c.in-Err-Line.is, c.in-Err-Line.field-0-is) at c.parse.ensures.outside)
+
+pub returns-in-Err-Line-clause-bounded : goal.returns-in-Err-Line-clause-bounded
+returns-in-Err-Line-clause-bounded g c = (c.in-Ok.text.items, c.in-Ok.ensures.bounded, c.in-Ok.ensures.takes)
