@@ -7,6 +7,4 @@
 
 mod laws;
 
-pub use laws::{
-    images_stay, known_images_were_put, stores_open_again, withdrawals_stay,
-};
+pub use laws::{images_stay, known_images_were_put, stores_open_again, withdrawals_stay};

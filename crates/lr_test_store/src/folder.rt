@@ -51,8 +51,8 @@ const ABSENT: &[&[u8]] = &[b"a.c", b"a.c", b"a/none", b"none/b", b"a0/b"];
 
 // Keys of a folder, of a link, of a file in a linked folder, and of no path.
 const NO_FILES: &[&[u8]] = &[
-    b"inner", b"link", b"other/a", b"", b"/a", b"a/", b"a//b", b"..", b"a/../b", b"./a", b".tmp", b".tmp/a",
-    b"a\0b", b"a\xff",
+    b"inner", b"link", b"other/a", b"", b"/a", b"a/", b"a//b", b"..", b"a/../b", b"./a", b".tmp",
+    b".tmp/a", b"a\0b", b"a\xff",
 ];
 
 #[test]

@@ -7,9 +7,9 @@ ghost use Rattle.lr_top.specs.Gives.{streams, Plays, Commands};
 ghost use Rattle.lr_top.specs.Again.{ReadsAgain};
 ghost use Rattle.lr_top.specs.declared.outcome.RunRecord.TheVariants as record_of;
 
+use crate::keeping::{commands_read_again, sound_stores_are_kept};
 use crate::outcome::{Outcome, RunRecord};
 use crate::playing::play;
-use crate::keeping::{commands_read_again, sound_stores_are_kept};
 use lr_depot::DepotLog;
 use lr_desk::{Done, commands};
 use lr_io::{Sink, Source};

@@ -9,11 +9,11 @@
 mod choose;
 mod ends;
 mod input;
+mod keeping;
 mod laws;
 mod opening;
 mod outcome;
 mod playing;
-mod keeping;
 
 pub use choose::{desk, top};
 pub use ends::PlayEnd;
